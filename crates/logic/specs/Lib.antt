@@ -6,3 +6,5 @@ pub mod Hypotheses
 pub mod Principals
 pub mod Derivation
 pub mod Depth
+pub mod Structural
+pub mod OneStep

@@ -1,0 +1,4 @@
+-- The theorems whose statements are in specs/, and the lemmas behind them. Figure1, Says and Misreadings are what is cited from outside.
+pub mod Hypotheses
+pub mod Structural
+pub mod OneStep
