@@ -2,3 +2,6 @@
 pub mod Hypotheses
 pub mod Structural
 pub mod OneStep
+pub mod Identity
+pub mod Bind
+pub mod Cut

@@ -8,3 +8,4 @@ pub mod Derivation
 pub mod Depth
 pub mod Structural
 pub mod OneStep
+pub mod Cut
