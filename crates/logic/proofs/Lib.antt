@@ -5,3 +5,4 @@ pub mod OneStep
 pub mod Identity
 pub mod Bind
 pub mod Cut
+pub mod Force

@@ -9,3 +9,4 @@ pub mod Depth
 pub mod Structural
 pub mod OneStep
 pub mod Cut
+pub mod Force
