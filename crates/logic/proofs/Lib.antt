@@ -6,3 +6,7 @@ pub mod Identity
 pub mod Bind
 pub mod Cut
 pub mod Force
+pub mod Figure1
+pub mod Refutation
+pub mod Says
+pub mod Misreadings

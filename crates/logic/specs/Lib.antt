@@ -10,3 +10,6 @@ pub mod Structural
 pub mod OneStep
 pub mod Cut
 pub mod Force
+pub mod Figure1
+pub mod Says
+pub mod Misreadings
