@@ -1,11 +1,13 @@
 -- The theorems at equality, as everything outside this crate cites them: Figure 1 of 003. Assumes nothing.
 use mathlib.Core.Path.{refl, _∙_}
 use Rattle.logic.specs.Principals.{Reflexive, Transitive}
+use Rattle.logic.specs.Depth.{DepthOfSteps}
 use Rattle.logic.specs.Structural.{Weakening, OneSet, TwiceIsOnce}
 use Rattle.logic.specs.OneStep.{OneStep}
 use Rattle.logic.specs.Cut.{Identity, Cut, AffirmationCut}
 use Rattle.logic.specs.Force.{ForceByStatements, ForceJoined, ReleaseKept, AnyReleaseKept}
 use Rattle.logic.specs.Figure1.{Same}
+use Rattle.logic.proofs.Depth as D
 use Rattle.logic.proofs.Structural as S
 use Rattle.logic.proofs.OneStep as O
 use Rattle.logic.proofs.Identity as I
@@ -17,6 +19,9 @@ same-reflexive K = refl
 
 pub same-transitive : Transitive Same
 same-transitive K L M p q = p ∙ q
+
+pub depth-of-steps : DepthOfSteps Same
+depth-of-steps = D.depth-of-steps
 
 pub weakening : Weakening Same
 weakening = S.weakening

@@ -1,5 +1,6 @@
 -- The theorems whose statements are in specs/, and the lemmas behind them. Figure1, Says and Misreadings are what is cited from outside.
 pub mod Hypotheses
+pub mod Depth
 pub mod Structural
 pub mod OneStep
 pub mod Identity

@@ -1,6 +1,5 @@
 -- Derivations of one step: init and false left, and no other rule. Assumes nothing.
-use Prim.Native.Nat.{suc, max, _<_}
-use native.Mathlib.Nat.{zero-lt-suc}
+use Prim.Native.Nat.{suc, max}
 use native.Mathlib.Omega.{arith}
 use mathlib.Core.Path.{_≡_, refl, sym, subst}
 use mathlib.Core.Logic.{inl, inr, ⊎-elim}
@@ -11,24 +10,10 @@ use Rattle.logic.specs.Principals.{Relation}
 use Rattle.logic.specs.Derivation.{Derivation, init, affirm, implies-right, implies-left, false-left, and-right, and-left, or-right-first, or-right-second, or-left, says-right, says-left}
 use Rattle.logic.specs.Depth.{depth, DerivationOfDepth}
 use Rattle.logic.specs.OneStep.{InOneStep, OneStep}
+use Rattle.logic.proofs.Depth.{depth-positive}
 
 module _ {R : Relation} where
-  -- every derivation has a first step
-  pub depth-positive : {Γ : List Proposition} {γ : Judgment} (D : Derivation R Γ γ) → 0 < depth D
-  depth-positive (init m) = zero-lt-suc _
-  depth-positive (affirm D) = zero-lt-suc _
-  depth-positive (implies-right D) = zero-lt-suc _
-  depth-positive (implies-left m D E) = zero-lt-suc _
-  depth-positive (false-left m) = zero-lt-suc _
-  depth-positive (and-right D E) = zero-lt-suc _
-  depth-positive (and-left m D) = zero-lt-suc _
-  depth-positive (or-right-first D) = zero-lt-suc _
-  depth-positive (or-right-second D) = zero-lt-suc _
-  depth-positive (or-left m D E) = zero-lt-suc _
-  depth-positive (says-right D) = zero-lt-suc _
-  depth-positive (says-left m r D) = zero-lt-suc _
-
-  -- so a step with a premise is not the only one
+  -- a step with a premise is not the only one
   one-premise : {Γ : List Proposition} {γ : Judgment} {T : Type 0} (D : Derivation R Γ γ) → suc (depth D) ≡ 1 → T
   one-premise D e = absurd (omega (arith, depth-positive D))
 

@@ -1,10 +1,12 @@
--- "The first step has depth 1, a premise's step one more than its conclusion's." (01) The depth of a derivation is that of its deepest step.
+-- Depth. "The first step has depth 1, a premise's step one more than its conclusion's." (01) A derivation is as deep as its deepest step.
 -- Assumes nothing.
-use Prim.Native.Nat.{ℕ, suc, max}
+use Prim.Native.Nat.{ℕ, suc, max, _≤_}
 use mathlib.Core.Path.{_≡_}
-use mathlib.Core.List.{List}
+use mathlib.Core.Logic.{_↔_}
+use mathlib.Core.List.{List, [], _∷_, _++_}
 use Rattle.logic.specs.Proposition.{Proposition}
 use Rattle.logic.specs.Judgment.{Judgment}
+use Rattle.logic.specs.Hypotheses.{_∈_}
 use Rattle.logic.specs.Principals.{Relation}
 use Rattle.logic.specs.Derivation.{Derivation, init, affirm, implies-right, implies-left, false-left, and-right, and-left, or-right-first, or-right-second, or-left, says-right, says-left}
 
@@ -23,5 +25,25 @@ module _ {R : Relation} where
   depth (says-right D) = suc (depth D)
   depth (says-left m r D) = suc (depth D)
 
+  -- The depths of the steps, one by one, where the first has depth d: "each step is followed by all of its first premise, then its second".
+  abbrev pub stepDepths : {Γ : List Proposition} {γ : Judgment} → ℕ → Derivation R Γ γ → List ℕ
+  stepDepths d (init m) = d ∷ []
+  stepDepths d (affirm D) = d ∷ stepDepths (suc d) D
+  stepDepths d (implies-right D) = d ∷ stepDepths (suc d) D
+  stepDepths d (implies-left m D E) = d ∷ (stepDepths (suc d) D ++ stepDepths (suc d) E)
+  stepDepths d (false-left m) = d ∷ []
+  stepDepths d (and-right D E) = d ∷ (stepDepths (suc d) D ++ stepDepths (suc d) E)
+  stepDepths d (and-left m D) = d ∷ stepDepths (suc d) D
+  stepDepths d (or-right-first D) = d ∷ stepDepths (suc d) D
+  stepDepths d (or-right-second D) = d ∷ stepDepths (suc d) D
+  stepDepths d (or-left m D E) = d ∷ (stepDepths (suc d) D ++ stepDepths (suc d) E)
+  stepDepths d (says-right D) = d ∷ stepDepths (suc d) D
+  stepDepths d (says-left m r D) = d ∷ stepDepths (suc d) D
+
 abbrev pub DerivationOfDepth : Relation → List Proposition → Judgment → ℕ → Type 0
 DerivationOfDepth R Γ γ d = (D : Derivation R Γ γ) × (depth D ≡ d)
+
+-- A derivation is at most n deep exactly when none of its steps is deeper than n. Proved in proofs/Depth.antt.
+abbrev pub DepthOfSteps : Relation → Type 0
+DepthOfSteps R =
+    (Γ : List Proposition) (γ : Judgment) (D : Derivation R Γ γ) (n : ℕ) → depth D ≤ n ↔ ((d : ℕ) → d ∈ stepDepths 1 D → d ≤ n)

@@ -1,6 +1,6 @@
 -- Figure 1 of 003 itself: a principal's word serves that same principal, and nobody else. The crate's definitions without the relation
 -- on principals, which is equality here. These are what the documents mean by a proof and by force, and what everything else cites;
--- proofs/Figure1.antt has the promises of Structural, OneStep, Cut and Force for them, as `Cut Same` and so on. Assumes nothing.
+-- proofs/Figure1.antt has the promises of Depth, Structural, OneStep, Cut and Force for them, as `Cut Same` and so on. Assumes nothing.
 use Prim.Native.Nat.{ℕ}
 use mathlib.Core.Path.{_≡_}
 use mathlib.Core.List.{List}
