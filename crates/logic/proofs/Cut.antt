@@ -55,35 +55,35 @@ module _ {R : Relation} (transitive : Transitive R) where
       bind transitive D tt (λ Δ i G. bind transitive G r (λ Θ j H. cut-A Θ (L affirms C) H (weaken (extend A (⊆-trans i j)) E)))
 
   -- A hypothesis of A ∷ Γ is A itself, or one of Γ.
-  which : {Γ : List Proposition} {A B : Proposition} {T : Type 0} → Cuttable R Γ A → B ∈ A ∷ Γ → (Cuttable R Γ B → T) → (B ∈ Γ → T) → T
-  which {Γ} p m itself other = ⊎-elim (λ e. itself (subst (Cuttable R Γ) (sym e) p)) other (List·Memᴰ·cases-cons m)
+  hypothesis-cases : {Γ : List Proposition} {A B : Proposition} {T : Type 0} → Cuttable R Γ A → B ∈ A ∷ Γ → (Cuttable R Γ B → T) → (B ∈ Γ → T) → T
+  hypothesis-cases {Γ} p m itself other = ⊎-elim (λ e. itself (subst (Cuttable R Γ) (sym e) p)) other (List·Memᴰ·cases-cons m)
 
   under : {Γ : List Proposition} {A : Proposition} (B : Proposition) → Cuttable R Γ A → Cuttable R (B ∷ Γ) A
   under B (c, D) = (c, weaken (added B) D)
 
   cut-in : {Γ Δ : List Proposition} {γ : Judgment} (A : Proposition) → Derivation R Δ γ → Δ ⊆ A ∷ Γ → Cuttable R Γ A → Derivation R Γ γ
-  cut-in A (init m) s p = which p (s _ m) (λ q. q .1) init
+  cut-in A (init m) s p = hypothesis-cases p (s _ m) (λ q. q .1) init
   cut-in A (affirm E) s p = affirm (cut-in A E s p)
   cut-in A (implies-right {A = B} E) s p = implies-right (cut-in A E (exchange A B s) (under B p))
   cut-in A (implies-left {B = C} m E F) s p =
       let E′ = cut-in A E s p in
       let F′ = cut-in A F (exchange A C s) (under C p) in
-      which p (s _ m) (λ q. through-implies q E′ F′) (λ n. implies-left n E′ F′)
-  cut-in A (false-left m) s p = which p (s _ m) through-false false-left
+      hypothesis-cases p (s _ m) (λ q. through-implies q E′ F′) (λ n. implies-left n E′ F′)
+  cut-in A (false-left m) s p = hypothesis-cases p (s _ m) through-false false-left
   cut-in A (and-right E F) s p = and-right (cut-in A E s p) (cut-in A F s p)
   cut-in A (and-left {A = B} {B = C} m E) s p =
       let E′ = cut-in A E (exchange A B (exchange A C s)) (under B (under C p)) in
-      which p (s _ m) (λ q. through-and q E′) (λ n. and-left n E′)
+      hypothesis-cases p (s _ m) (λ q. through-and q E′) (λ n. and-left n E′)
   cut-in A (or-right-first E) s p = or-right-first (cut-in A E s p)
   cut-in A (or-right-second E) s p = or-right-second (cut-in A E s p)
   cut-in A (or-left {A = B} {B = C} m E F) s p =
       let E′ = cut-in A E (exchange A B s) (under B p) in
       let F′ = cut-in A F (exchange A C s) (under C p) in
-      which p (s _ m) (λ q. through-or q E′ F′) (λ n. or-left n E′ F′)
+      hypothesis-cases p (s _ m) (λ q. through-or q E′ F′) (λ n. or-left n E′ F′)
   cut-in A (says-right E) s p = says-right (cut-in A E s p)
   cut-in A (says-left {A = B} m r E) s p =
       let E′ = cut-in A E (exchange A B s) (under B p) in
-      which p (s _ m) (λ q. through-says q r E′) (λ n. says-left n r E′)
+      hypothesis-cases p (s _ m) (λ q. through-says q r E′) (λ n. says-left n r E′)
 
   from-below : (A : Proposition) → CutBelow R A → CutAt R A
   from-below A c Γ γ D E = cut-in A E ⊆-refl (c, D)

@@ -1,16 +1,26 @@
 -- Demand 3's theorem: equal in force exactly when each statement of either list has a proof from the other. By identity one way, by a
 -- cut at each statement the other way. Assumes nothing.
+use mathlib.Core.Path.{sym, subst}
 use mathlib.Core.Logic.{⊎-elim}
-use mathlib.Core.List.{List, [], _∷_, _++_, List·Memᴰ·append-cases}
+use mathlib.Core.List.{List, [], _∷_, _++_, List·Memᴰ·head, List·Memᴰ·tail, List·Memᴰ·not-nil, List·Memᴰ·append-cases}
 use Rattle.logic.specs.Proposition.{Proposition}
 use Rattle.logic.specs.Judgment.{Judgment}
 use Rattle.logic.specs.Principals.{Relation, Reflexive, Transitive}
 use Rattle.logic.specs.Derivation.{Derivation}
-use Rattle.logic.specs.Force.{EachHasProof, ForceByStatements, ForceJoined, ReleaseKept, AnyReleaseKept}
+use Rattle.logic.specs.Force.{HasProof, EachHasProof, ForceByStatements, ForceJoined, ReleaseKept, AnyReleaseKept}
 use Rattle.logic.proofs.Hypotheses.{first, added, ⊆-left, ⊆-right}
 use Rattle.logic.proofs.Structural.{weaken}
 use Rattle.logic.proofs.Identity.{identity}
 use Rattle.logic.proofs.Cut.{cut}
+
+-- a list of proofs, a statement each
+module _ {R : Relation} {Δ : List Proposition} where
+  pub each-nil : EachHasProof R [] Δ
+  each-nil A i = absurd (List·Memᴰ·not-nil i)
+
+  pub each-cons : {A : Proposition} {Γ : List Proposition} → HasProof R Δ A → EachHasProof R Γ Δ → EachHasProof R (A ∷ Γ) Δ
+  each-cons D proofs B (List·Memᴰ·head e) = subst (HasProof R Δ) (sym e) D
+  each-cons D proofs B (List·Memᴰ·tail i) = proofs B i
 
 module _ {R : Relation} (reflexive : Reflexive R) (transitive : Transitive R) where
   -- hypotheses that the others prove may go
@@ -20,13 +30,13 @@ module _ {R : Relation} (reflexive : Reflexive R) (transitive : Transitive R) wh
       drop-proved Γ (λ B i. proofs B (added A B i)) (cut transitive A (Γ ++ Δ) γ (weaken (⊆-right Γ) (proofs A first)) D)
 
   -- what the first list derives, every list that proves its statements derives
-  pub carry : {Γ Δ : List Proposition} {γ : Judgment} → EachHasProof R Γ Δ → Derivation R Γ γ → Derivation R Δ γ
-  carry {Γ} {Δ} proofs D = drop-proved Γ proofs (weaken (⊆-left Δ) D)
+  pub cut-all : {Γ Δ : List Proposition} {γ : Judgment} → EachHasProof R Γ Δ → Derivation R Γ γ → Derivation R Δ γ
+  cut-all {Γ} {Δ} proofs D = drop-proved Γ proofs (weaken (⊆-left Δ) D)
 
   pub force-by-statements : ForceByStatements R
   force-by-statements Γ Δ = (
     λ f. (λ A i. f A .0 (identity reflexive Γ A i), λ A i. f A .1 (identity reflexive Δ A i)),
-    λ (there, back) A. (carry there, carry back),
+    λ (there, back) A. (cut-all there, cut-all back),
   )
 
   -- a proof of each statement stays one when the same statements join both lists

@@ -1,13 +1,16 @@
--- The theorems whose statements are in specs/, and the lemmas behind them. Figure1, Says and Misreadings are what is cited from outside.
+-- The theorems whose statements are in specs/, and the lemmas behind them. Figure1, Samples, Says and Misreadings are cited from above.
 pub mod Hypotheses
 pub mod Depth
 pub mod Structural
 pub mod OneStep
+pub mod FromSigned
+pub mod SaysLeft
 pub mod Identity
 pub mod Bind
 pub mod Cut
 pub mod Force
+pub mod Promises
 pub mod Figure1
-pub mod Refutation
+pub mod Samples
 pub mod Says
 pub mod Misreadings

@@ -1,4 +1,4 @@
--- Depth. "The first step has depth 1, a premise's step one more than its conclusion's." (01) A derivation is as deep as its deepest step.
+-- Depth. "The first step has depth 1, a premise's step one more than its conclusion's" (01). A derivation is as deep as its deepest step.
 -- Assumes nothing.
 use Prim.Native.Nat.{ℕ, suc, max, _≤_}
 use mathlib.Core.Path.{_≡_}
@@ -40,6 +40,7 @@ module _ {R : Relation} where
   stepDepths d (says-right D) = d ∷ stepDepths (suc d) D
   stepDepths d (says-left m r D) = d ∷ stepDepths (suc d) D
 
+-- A derivation, and its depth is d.
 abbrev pub DerivationOfDepth : Relation → List Proposition → Judgment → ℕ → Type 0
 DerivationOfDepth R Γ γ d = (D : Derivation R Γ γ) × (depth D ≡ d)
 

@@ -6,7 +6,7 @@
 -- "a formula named by a left rule remains a hypothesis in every premise".
 --
 -- The relation on principals is used by says left alone: K speaks for L where K's word may serve an affirmation by L. Figure 1 takes
--- equality, "K says A, the same K" (Figure1.antt). Assumes nothing.
+-- equality, "the same K" (Figure1.antt). Assumes nothing.
 use mathlib.Core.List.{List, _∷_}
 use Rattle.logic.specs.Proposition.{Proposition, Atom, Principal, atom, false, _implies_, _and_, _or_, _says_}
 use Rattle.logic.specs.Judgment.{Judgment, truth, _affirms_}

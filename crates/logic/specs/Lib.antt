@@ -8,8 +8,11 @@ pub mod Derivation
 pub mod Depth
 pub mod Structural
 pub mod OneStep
+pub mod SaysLeft
 pub mod Cut
 pub mod Force
+pub mod Promises
 pub mod Figure1
+pub mod Samples
 pub mod Says
 pub mod Misreadings

@@ -17,7 +17,8 @@ SaysDistributes = (K : Principal) (A B : Proposition) → HasProof [] (K says (A
 abbrev pub SaysTwiceIsSays : Type 0
 SaysTwiceIsSays = (K : Principal) (A : Proposition) → HasProof [] (K says K says A implies K says A)
 
--- The other three are not derivable "in the given generality": they fail for all principals, and at every atom.
+-- The other three are not derivable "in the given generality". The first fails for every principal and every atom, the second for every
+-- principal, the third for every two principals that differ and every atom.
 
 -- ⊬ (K says A) ⊃ A
 abbrev pub SaidIsNotTrue : Type 0
