@@ -20,11 +20,11 @@ SignedBy P (K says A) = P K
 abbrev pub AllSignedBy : (Principal → Type 0) → List Proposition → Type 0
 AllSignedBy P Γ = (A : Proposition) → A ∈ Γ → SignedBy P A
 
--- P for whoever signed
+-- whoever the signer is
 abbrev pub Anybody : Principal → Type 0
 Anybody K = Unit
 
--- P for whoever is not L
+-- any signer but L
 abbrev pub OtherThan : Principal → Principal → Type 0
 OtherThan L K = K ≢ L
 
@@ -35,8 +35,8 @@ SaysGivesNoAtom = (K : Principal) (a : Atom) → ¬ HasProof (K says atom a ∷ 
 abbrev pub SignedGiveNoAtom : Type 0
 SignedGiveNoAtom = (Γ : List Proposition) → AllSignedBy Anybody Γ → (a : Atom) → ¬ HasProof Γ (atom a)
 
--- "They use one foreman's word while they prove what another affirms." What others say does not by itself
--- serve an affirmation of an atom by L.
+-- "They use one foreman's word while they prove what another affirms." What others say does not by itself serve an affirmation of an atom
+-- by L.
 abbrev pub SaysServesNoOther : Type 0
 SaysServesNoOther = (K L : Principal) → K ≢ L → (a : Atom) → ¬ Derivation (K says atom a ∷ []) (L affirms atom a)
 
