@@ -20,3 +20,4 @@ pub data Proposition : Type 0 where
   _and_ : Proposition → Proposition → Proposition
   _or_ : Proposition → Proposition → Proposition
   _says_ : Principal → Proposition → Proposition
+  deriving Discrete as Proposition-discrete

@@ -1,0 +1,15 @@
+-- The theorems whose statements are in specs/, and the lemmas behind them and behind the code. What stands above leans on Shapes besides.
+pub mod Choice
+pub mod First
+pub mod Entries
+pub mod Ordered
+pub mod Spelled
+pub mod Distinct
+pub mod Shapes
+pub mod Number
+pub mod Answers
+pub mod Passed
+pub mod Scan
+pub mod Walk
+pub mod Buckets
+pub mod Samples

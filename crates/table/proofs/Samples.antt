@@ -1,0 +1,15 @@
+-- The samples hold, by computation. Assumes nothing.
+use mathlib.Core.Path.{refl}
+use Rattle.table.specs.First.{first}
+use Rattle.table.specs.Entry.{entry}
+use Rattle.table.specs.Tests.{entries, wrongEntry, repeatedEntry, tableTests}
+use Rattle.table.specs.Spelled.{spelledAfter, spelled}
+use Rattle.table.specs.Samples.{Samples, SpelledOut}
+
+pub samples : Samples
+unfolding tableTests wrongEntry repeatedEntry first entries entry
+samples = refl
+
+pub spelled-out : SpelledOut
+unfolding entries entry spelled spelledAfter
+spelled-out = refl

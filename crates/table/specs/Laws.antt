@@ -1,0 +1,70 @@
+-- What tests 4 and 5 give. Each statement is proved in proofs/ under its name in small letters; what stands above this crate uses
+-- these and not the tests' definitions. Assumes nothing.
+use Prim.Native.Nat.{ℕ, _<_, _≤_}
+use mathlib.Core.Bool.{true}
+use mathlib.Core.Path.{_≡_}
+use mathlib.Core.Logic.{_↔_}
+use mathlib.Core.List.{List, [], _∷_}
+use lib.ListN.{length}
+use Rattle.logic.specs.Proposition.{false}
+use Rattle.logic.specs.Hypotheses.{_∈_}
+use Rattle.table.specs.declared.entry.Formula.{Formula}
+use Rattle.table.specs.declared.entry.Entry.{Entry}
+use Rattle.table.specs.declared.entry.Entry.the-variants.{Atom, False, Implies, And, Or, Says, IllFormed}
+use Rattle.table.specs.declared.place.Place.the-variants.{Nowhere}
+use Rattle.table.specs.declared.tests.Tested.the-variants.{Passed}
+use Rattle.table.specs.Limits.{mostFormulas}
+use Rattle.table.specs.Tests.{entries, entryAt, right, wrongEntry, repeatedEntry, tableTests}
+use Rattle.table.specs.Spelled.{proposition, spelled, spell}
+use Rattle.table.specs.Number.{number}
+
+-- 4 finds no fault exactly when each entry is right at its number.
+abbrev pub Ordered : List Entry → Type 0
+Ordered es = (i : ℕ) → i < length es → right i (entryAt es i) ≡ true
+
+abbrev pub NoFaultOrdered : Type 0
+NoFaultOrdered = (es : List Entry) → wrongEntry es ≡ Nowhere ↔ Ordered es
+
+-- An operand's number is lower.
+abbrev pub operands : Entry → List Formula
+operands (Atom a) = []
+operands False = []
+operands (Implies f g) = f ∷ g ∷ []
+operands (And f g) = f ∷ g ∷ []
+operands (Or f g) = f ∷ g ∷ []
+operands (Says k f) = f ∷ []
+operands IllFormed = []
+
+abbrev pub OperandsLower : Type 0
+OperandsLower = (es : List Entry) → Ordered es → (i : ℕ) → i < length es → (f : Formula) → f ∈ operands (entryAt es i) → f .0 < i
+
+-- Each entry's proposition is its kind applied to the propositions of its operands, and what is no entry spells false.
+abbrev pub MadeOfOperands : Type 0
+MadeOfOperands = (es : List Entry) → Ordered es → (n : ℕ) → spell es n ≡ proposition (spelled es) (entryAt es n)
+
+-- 5 finds no fault: two numbers below F with equal entries are equal.
+abbrev pub Distinct : List Entry → Type 0
+Distinct es = (i j : ℕ) → i < length es → j < length es → entryAt es i ≡ entryAt es j → i ≡ j
+
+abbrev pub NoFaultDistinct : Type 0
+NoFaultDistinct =
+    (heads seconds : List ℕ) → length heads ≡ length seconds
+    → Ordered (entries heads seconds) → repeatedEntry heads seconds ≡ Nowhere → Distinct (entries heads seconds)
+
+-- What a table has that passes 2, 4 and 5.
+pub record Good (heads seconds : List ℕ) : Type 0 where
+  pub same-length : length heads ≡ length seconds
+  pub few : length heads ≤ mostFormulas
+  pub ordered : Ordered (entries heads seconds)
+  pub distinct : Distinct (entries heads seconds)
+
+abbrev pub PassedIsGood : Type 0
+PassedIsGood = (heads seconds : List ℕ) → tableTests heads seconds ≡ Passed → Good heads seconds
+
+-- Two numbers below F with the same proposition are equal, and the number of a proposition is the number that spells it.
+abbrev pub OneNumber : Type 0
+OneNumber =
+    (es : List Entry) → Ordered es → Distinct es → (i j : ℕ) → i < length es → j < length es → spell es i ≡ spell es j → i ≡ j
+
+abbrev pub NumberOf : Type 0
+NumberOf = (es : List Entry) → Ordered es → Distinct es → (i : ℕ) → i < length es → number es (spell es i) ≡ i

@@ -1,0 +1,48 @@
+-- The samples of document 01 as far as they are about tables, and where two tests apply. Proved in proofs/Samples.antt, by computation.
+-- Assumes nothing.
+use Prim.Native.Nat.{ℕ}
+use mathlib.Core.Path.{_≡_}
+use mathlib.Core.List.{List, [], _∷_, map}
+use Rattle.logic.specs.Proposition.{Proposition, atom, false, _implies_, _says_}
+use Rattle.table.specs.declared.tests.Tested.{Tested}
+use Rattle.table.specs.declared.tests.Tested.the-variants.{Passed, Refused}
+use Rattle.table.specs.Tests.{entries, tableTests}
+use Rattle.table.specs.Spelled.{spelled}
+
+-- A row of a table of samples: heads, seconds and the answer.
+pub record Sample : Type 0 where
+  pub heads : List ℕ
+  pub seconds : List ℕ
+  pub answer : Tested
+
+abbrev pub sample : List ℕ → List ℕ → Tested → Sample
+sample heads seconds answer = record { heads = heads; seconds = seconds; answer = answer }
+
+-- In order: table T; M, "a table of entries 0 and 0"; N, "first entry 20487 with second 0"; the table of K; no entry; arrays of unlike
+-- length; kind 6; an atom with a second; false with a first operand; an operand that is the entry's own number; a second of 65,535;
+-- "a repeated entry at 2 and a bad one at 3", 4 before 5; and the first of two repeated entries.
+abbrev pub table : List Sample
+table =
+    sample (0 ∷ 20487 ∷ 20488 ∷ []) (0 ∷ 0 ∷ 0 ∷ []) Passed
+    ∷ sample (0 ∷ 0 ∷ []) (0 ∷ 0 ∷ []) (Refused 5 1)
+    ∷ sample (20487 ∷ []) (0 ∷ []) (Refused 4 0)
+    ∷ sample (0 ∷ 1 ∷ 12288 ∷ []) (0 ∷ 0 ∷ 1 ∷ []) Passed
+    ∷ sample [] [] (Refused 2 0)
+    ∷ sample (0 ∷ 1 ∷ []) (0 ∷ []) (Refused 2 0)
+    ∷ sample (0 ∷ 24576 ∷ []) (0 ∷ 0 ∷ []) (Refused 4 1)
+    ∷ sample (0 ∷ []) (1 ∷ []) (Refused 4 0)
+    ∷ sample (4097 ∷ []) (0 ∷ []) (Refused 4 0)
+    ∷ sample (0 ∷ 8193 ∷ []) (0 ∷ 0 ∷ []) (Refused 4 1)
+    ∷ sample (0 ∷ 8192 ∷ []) (0 ∷ 65535 ∷ []) (Refused 4 1)
+    ∷ sample (0 ∷ 1 ∷ 0 ∷ 8195 ∷ []) (0 ∷ 0 ∷ 0 ∷ 0 ∷ []) (Refused 4 3)
+    ∷ sample (0 ∷ 1 ∷ 1 ∷ 0 ∷ []) (0 ∷ 0 ∷ 0 ∷ 0 ∷ []) (Refused 5 2)
+    ∷ []
+
+abbrev pub Samples : Type 0
+Samples = map (λ r. tableTests (r .heads) (r .seconds)) table ≡ map (λ r. r .answer) table
+
+-- What table T spells out, with (7 says it) implies false after it.
+abbrev pub SpelledOut : Type 0
+SpelledOut =
+    spelled (entries (0 ∷ 20487 ∷ 20488 ∷ 4096 ∷ 8193 ∷ []) (0 ∷ 0 ∷ 0 ∷ 0 ∷ 3 ∷ []))
+    ≡ atom 0 ∷ 7 says atom 0 ∷ 8 says atom 0 ∷ false ∷ (7 says atom 0) implies false ∷ []
