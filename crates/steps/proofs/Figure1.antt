@@ -1,0 +1,43 @@
+-- The machine of document 01 closes on exactly the words of derivations, and its trace is their lines (specs/Figure1.antt). Assumes nothing.
+use Prim.Native.Nat.{ℕ}
+use native.Mathlib.Omega.{arith}
+use mathlib.Core.Path.{_≡_}
+use mathlib.Core.List.{List}
+use borrow.Author.Tests.{eq-eqb, eqb-true}
+use Rattle.logic.specs.Figure1.{Same}
+use Rattle.table.specs.declared.tests.Tested.the-variants.{Passed}
+use Rattle.table.specs.Limits.{mostDepth}
+use Rattle.table.specs.Tests.{entries, tableTests}
+use Rattle.table.proofs.Entries.{length-entries-equal}
+use Rattle.table.proofs.Passed.{passed-is-good}
+use Rattle.steps.specs.Runs.{Decides}
+use Rattle.steps.specs.Figure1.{same, RunsAreDerivations, TraceIsDerivations, LinePerWord}
+use Rattle.steps.proofs.Has as Table
+use Rattle.steps.proofs.Runs as Any
+use Rattle.steps.proofs.Trace as AnyTrace
+
+-- "the same K" is equality.
+pub same-decides : Decides same Same
+same-decides K L = (eqb-true K L, eq-eqb K L)
+
+-- what the theorems ask of a table
+pub table-passed : (heads seconds : List ℕ) → tableTests heads seconds ≡ Passed → Table.Passed (entries heads seconds)
+table-passed heads seconds passed =
+    let good = passed-is-good heads seconds passed in record {
+      few = omega (arith, length-entries-equal heads seconds (good .same-length), good .few);
+      ordered = good .ordered;
+      distinct = good .distinct;
+    }
+
+pub runs-are-derivations : RunsAreDerivations
+runs-are-derivations heads seconds passed =
+    let t = table-passed heads seconds passed in
+    Any.runs-are-derivations same Same same-decides mostDepth (entries heads seconds) (t .few) (t .ordered) (t .distinct)
+
+pub trace-is-derivations : TraceIsDerivations
+trace-is-derivations heads seconds passed =
+    let t = table-passed heads seconds passed in
+    AnyTrace.trace-is-derivations same Same same-decides mostDepth (entries heads seconds) (t .few) (t .ordered) (t .distinct)
+
+pub line-per-word : LinePerWord
+line-per-word = AnyTrace.line-per-word same mostDepth

@@ -1,0 +1,68 @@
+-- The machine of document 01 itself: "the same K" for code 11, and depth at most 512. Records, exchanges and code cite it from here.
+-- Proved in proofs/Figure1.antt. Assumes nothing.
+use Prim.Native.Nat.{ℕ}
+use mathlib.Core.Bool.{Bool}
+use mathlib.Core.Path.{_≡_}
+use mathlib.Core.Logic.{_↔_}
+use mathlib.Core.List.{List}
+use lib.ListN.{length}
+use lib.Dec.{eqb}
+use Rattle.logic.specs.Hypotheses.{_∈_}
+use Rattle.logic.specs.Figure1.{Same}
+use Rattle.table.specs.declared.entry.Entry.{Entry}
+use Rattle.table.specs.declared.tests.Tested.the-variants.{Passed}
+use Rattle.table.specs.Limits.{mostDepth}
+use Rattle.table.specs.Tests.{entries, tableTests}
+use Rattle.steps.specs.declared.opened.Opened.{Opened}
+use Rattle.steps.specs.declared.verdict.Verdict.{Verdict}
+use Rattle.steps.specs.declared.verdict.Verdict.the-variants.{Closed}
+use Rattle.steps.specs.Obligation.{Obligation}
+use Rattle.steps.specs.Step as Any
+use Rattle.steps.specs.Run as AnyRun
+use Rattle.steps.specs.Carried as AnyCarried
+use Rattle.steps.specs.Carried.{InTable}
+use Rattle.steps.specs.Trace as AnyTrace
+use Rattle.steps.specs.Trace.{Line}
+
+-- "the same K"
+abbrev pub same : ℕ → ℕ → Bool
+same K L = eqb K L
+
+abbrev pub step : List Entry → ℕ → Obligation → Opened
+step es w o = Any.step same es mostDepth w o
+
+abbrev pub walk : List Entry → List ℕ → ℕ → List Obligation → Verdict
+walk es ws p os = AnyRun.walk same mostDepth es ws p os
+
+abbrev pub run : List Entry → List ℕ → List Obligation → Verdict
+run es ws os = AnyRun.run same mostDepth es ws os
+
+abbrev pub Carried : List Entry → List Obligation → List ℕ → Type 0
+Carried es os ws = AnyCarried.Carried Same mostDepth es os ws
+
+abbrev pub trace : List Entry → List ℕ → List Obligation → List Line
+trace es ws os = AnyTrace.trace same mostDepth es ws os
+
+abbrev pub linesOf : (es : List Entry) (os : List Obligation) (ws : List ℕ) → Carried es os ws → List Line
+linesOf es os ws carried = AnyTrace.linesOf Same mostDepth es os ws carried
+
+-- In a table that passes 2, 4 and 5, the machine closes on exactly the words of derivations.
+abbrev pub RunsAreDerivations : Type 0
+RunsAreDerivations =
+    (heads seconds : List ℕ) → tableTests heads seconds ≡ Passed
+    → (os : List Obligation) → ((o : Obligation) → o ∈ os → InTable (entries heads seconds) o)
+    → (ws : List ℕ) → run (entries heads seconds) ws os ≡ Closed (length ws) ↔ Carried (entries heads seconds) os ws
+
+-- On these words, the trace is the lines of these derivations,
+abbrev pub TraceIsDerivations : Type 0
+TraceIsDerivations =
+    (heads seconds : List ℕ) → tableTests heads seconds ≡ Passed
+    → (os : List Obligation) → ((o : Obligation) → o ∈ os → InTable (entries heads seconds) o)
+    → (ws : List ℕ) (carried : Carried (entries heads seconds) os ws)
+    → trace (entries heads seconds) ws os ≡ linesOf (entries heads seconds) os ws carried
+
+-- and has one line for each word.
+abbrev pub LinePerWord : Type 0
+LinePerWord =
+    (es : List Entry) (os : List Obligation) (ws : List ℕ)
+    → run es ws os ≡ Closed (length ws) → length (trace es ws os) ≡ length ws

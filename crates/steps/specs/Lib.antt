@@ -1,0 +1,14 @@
+-- The meaning of step words: one machine for tests 9 to 15 of document 01, the words of a derivation, the theorem that the machine closes
+-- on exactly these, and the trace of a run. Definitions, then the statements of theorems, to be read in this order. The proofs are in proofs/.
+pub mod Obligation
+pub mod Needs
+pub mod Rules
+pub mod Step
+pub mod Run
+pub mod Parts
+pub mod Words
+pub mod Carried
+pub mod Runs
+pub mod Trace
+pub mod Figure1
+pub mod Samples

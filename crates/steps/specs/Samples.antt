@@ -1,0 +1,112 @@
+-- The steps of the samples of document 01 over the machine, as one table, and what its order of tests means where several apply. The whole
+-- records and exchanges come with their own crates. Proved in proofs/Samples.antt, by computation. Assumes nothing.
+use Prim.Native.Nat.{ℕ}
+use mathlib.Core.Path.{_≡_}
+use mathlib.Core.List.{List, [], _∷_, _++_, map}
+use mathlib.Core.Option.{none, some}
+use lib.ListN.{replicate}
+use Rattle.logic.specs.Proposition.{atom, _says_}
+use Rattle.logic.specs.Judgment.{truth, _affirms_}
+use Rattle.table.specs.declared.entry.Entry.{Entry}
+use Rattle.table.specs.Tests.{entries}
+use Rattle.steps.specs.declared.verdict.Verdict.{Verdict}
+use Rattle.steps.specs.declared.verdict.Verdict.the-variants.{Closed, Refused}
+use Rattle.steps.specs.Obligation.{Obligation, due}
+use Rattle.steps.specs.Trace.{Line, line}
+use Rattle.steps.specs.Figure1.{run, trace}
+
+-- A row of a table of samples: what is to be proved, the step words, and the verdict. (01's "granted" comes with the record; here it is closed.)
+pub record Sample : Type 0 where
+  pub obligations : List Obligation
+  pub steps : List ℕ
+  pub verdict : Verdict
+
+abbrev pub sample : List ℕ → ℕ → List ℕ → Verdict → Sample
+sample statements goal steps verdict = record { obligations = due statements goal ∷ []; steps = steps; verdict = verdict }
+
+-- the machine gives each row's verdict
+abbrev pub Hold : List Entry → List Sample → Type 0
+Hold es rows = map (λ r. run es (r .steps) (r .obligations)) rows ≡ map (λ r. r .verdict) rows
+
+-- "Table T: 0 atom 0; 1 principal 7 says it; 2 principal 8 says it"
+abbrev pub T : List Entry
+T = entries (0 ∷ 20487 ∷ 20488 ∷ []) (0 ∷ 0 ∷ 0 ∷ [])
+
+-- | | statements | goal | steps | answer |, A to J
+abbrev pub table : List Sample
+table =
+    sample (1 ∷ []) 1 (40960 ∷ 45057 ∷ 4096 ∷ 0 ∷ []) (Closed 4)
+    ∷ sample (0 ∷ []) 1 (40960 ∷ 4096 ∷ 0 ∷ []) (Closed 3)
+    ∷ sample (1 ∷ []) 0 (45057 ∷ []) (Refused 14 0)
+    ∷ sample (2 ∷ []) 1 (40960 ∷ 45058 ∷ []) (Refused 14 1)
+    ∷ sample (0 ∷ []) 1 (0 ∷ []) (Refused 13 0)
+    ∷ sample [] 0 (0 ∷ []) (Refused 12 0)
+    ∷ sample (0 ∷ []) 1 (40960 ∷ 4096 ∷ []) (Refused 9 2)
+    ∷ sample (0 ∷ []) 1 (40960 ∷ 4096 ∷ 0 ∷ 0 ∷ []) (Refused 15 3)
+    ∷ sample (0 ∷ []) 0 (49152 ∷ []) (Refused 11 0)
+    ∷ sample (1 ∷ 1 ∷ []) 1 (40960 ∷ 45057 ∷ 4096 ∷ 0 ∷ []) (Closed 4)
+    ∷ []
+
+abbrev pub Samples : Type 0
+Samples = Hold T table
+
+-- "Tests 9 to 14 run in this order at each step": where two apply, the first counts. In order: 11 before 12 (an unknown code with a part
+-- that is not held; a part of F or more in a rule that names nothing), 12 before 13 (init of what is not held, for a says-formula; of a
+-- number of F or more, which "never is" a hypothesis, even where a statement has it), 12 before 14, 13 before 14 (says left of an atom, on a truth), init on an affirmation, and of a says-formula.
+abbrev pub order : List Sample
+order =
+    sample [] 0 (49153 ∷ []) (Refused 11 0)
+    ∷ sample [] 0 (4195 ∷ []) (Refused 11 0)
+    ∷ sample [] 1 (0 ∷ []) (Refused 12 0)
+    ∷ sample [] 0 (99 ∷ []) (Refused 12 0)
+    ∷ sample (99 ∷ []) 0 (99 ∷ []) (Refused 12 0)
+    ∷ sample [] 0 (45057 ∷ []) (Refused 12 0)
+    ∷ sample (0 ∷ []) 0 (45056 ∷ []) (Refused 13 0)
+    ∷ sample (0 ∷ []) 1 (40960 ∷ 0 ∷ []) (Refused 13 1)
+    ∷ sample (1 ∷ []) 1 (1 ∷ []) (Refused 13 0)
+    ∷ []
+
+abbrev pub Order : Type 0
+Order = Hold T order
+
+-- "Depth 512 passes and 513 is refused 10", and 9 comes before 10: atom 0, and with itself; the last step is init.
+abbrev pub deep : ℕ → List ℕ → Verdict → Sample
+deep n last verdict = sample (1 ∷ []) 0 (replicate n 24577 ++ last) verdict
+
+abbrev pub depths : List Sample
+depths = deep 511 (0 ∷ []) (Closed 512) ∷ deep 512 (0 ∷ []) (Refused 10 512) ∷ deep 512 [] (Refused 9 512) ∷ []
+
+abbrev pub Depths : Type 0
+Depths = Hold (entries (0 ∷ 12288 ∷ []) (0 ∷ 0 ∷ [])) depths
+
+-- K, the exchange: "table atom 0, atom 1, their and ..: lists [2] and [0, 1], steps 24578 0 24578 1 20480 0 1: equal"
+abbrev pub exchange : List Sample
+exchange =
+    record {
+      obligations = due (2 ∷ []) 0 ∷ due (2 ∷ []) 1 ∷ due (0 ∷ 1 ∷ []) 2 ∷ [];
+      steps = 24578 ∷ 0 ∷ 24578 ∷ 1 ∷ 20480 ∷ 0 ∷ 1 ∷ [];
+      verdict = Closed 7;
+    }
+    ∷ record { obligations = []; steps = []; verdict = Closed 0 }
+    ∷ []
+
+abbrev pub Exchange : Type 0
+Exchange = Hold (entries (0 ∷ 1 ∷ 12288 ∷ []) (0 ∷ 0 ∷ 1 ∷ [])) exchange
+
+-- The trace of A, of D as far as the step that is refused, and of H as far as the proof.
+abbrev pub traces : List (List Line)
+traces =
+    map (λ r. trace T (r .steps) (r .obligations))
+    (sample (1 ∷ []) 1 (40960 ∷ 45057 ∷ 4096 ∷ 0 ∷ []) (Closed 4)
+    ∷ sample (2 ∷ []) 1 (40960 ∷ 45058 ∷ []) (Refused 14 1)
+    ∷ sample (0 ∷ []) 1 (40960 ∷ 4096 ∷ 0 ∷ 0 ∷ []) (Refused 15 3)
+    ∷ [])
+
+abbrev pub Traces : Type 0
+Traces =
+    traces
+    ≡ (line 10 none (truth (7 says atom 0)) ∷ line 11 (some (7 says atom 0)) (7 affirms atom 0) ∷ line 1 none (7 affirms atom 0)
+    ∷ line 0 (some (atom 0)) (truth (atom 0)) ∷ [])
+    ∷ (line 10 none (truth (7 says atom 0)) ∷ line 11 (some (8 says atom 0)) (7 affirms atom 0) ∷ [])
+    ∷ (line 10 none (truth (7 says atom 0)) ∷ line 1 none (7 affirms atom 0) ∷ line 0 (some (atom 0)) (truth (atom 0)) ∷ [])
+    ∷ []
