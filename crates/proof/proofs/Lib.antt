@@ -1,0 +1,6 @@
+-- Laws for the functions' proofs: of the slots, of the hypotheses that they hold, of rules that lead from one kind of goal to the other, and
+-- of the walk.
+pub mod Slots
+pub mod Held
+pub mod Crossing
+pub mod Walks

@@ -1,0 +1,4 @@
+// The proof checker: it walks step words as the machine of the crate `steps` does, with each hypothesis found in constant time.
+pub mod check;
+mod hypotheses;
+mod walk;
