@@ -14,7 +14,7 @@ use Rattle.steps.specs.Obligation.{Obligation}
 use Rattle.steps.specs.Step.{step}
 use Rattle.proof.specs.Walks.{IsTruth, IsAffirmation}
 use Rattle.steps.proofs.Cases.{OfPremises, of-premises}
-use Rattle.steps.proofs.Applies.{Applies, init, affirm, implies-right, implies-left, false-left, and-right, and-left, or-right-first, or-right-second, or-left, says-right, says-left, Takes, step-takes}
+use Rattle.steps.proofs.Applies.{Applies, init, affirm, implies-right, implies-left, false-left, and-right, and-left, or-right-first, or-right-second, or-left, says-right, says-left, step-takes}
 
 -- one is a truth, the other an affirmation
 abbrev pub Other : Goal → Goal → Type 0

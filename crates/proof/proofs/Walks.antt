@@ -3,18 +3,17 @@ use Prim.Native.Nat.{ℕ, suc, _+_, _<_, _≤_}
 use native.Mathlib.Omega.{arith}
 use native.Mathlib.Numerals.{add-one}
 use mathlib.Core.Path.{_≡_, refl, sym, ap, _∙_, subst}
-use mathlib.Core.List.{List, [], _∷_, _++_, append-nil, map}
+use mathlib.Core.List.{List, [], _∷_, _++_, map}
 use lib.ListN.{length, getD}
 use Rattle.table.specs.declared.entry.Entry.{Entry}
 use Rattle.table.specs.Limits.{mostDepth}
-use Rattle.steps.specs.declared.goal.Goal.{Goal}
 use Rattle.steps.specs.declared.opened.Added.the-variants.{Nothing}
 use Rattle.steps.specs.declared.opened.Premise.{Premise}
 use Rattle.steps.specs.declared.opened.Opened.{Opened}
 use Rattle.steps.specs.declared.opened.Opened.the-variants as Opening
 use Rattle.steps.specs.declared.verdict.Verdict.{Verdict}
 use Rattle.steps.specs.declared.verdict.Verdict.the-variants as Verdicts
-use Rattle.steps.specs.Obligation.{Obligation, added, under}
+use Rattle.steps.specs.Obligation.{added, under}
 use Rattle.steps.specs.Run.{after}
 use Rattle.steps.specs.Figure1.{same, step}
 use Rattle.steps.specs.Parts.{andThen, walkFrom}
@@ -23,8 +22,9 @@ use Rattle.proof.specs.declared.walk.Walk.{Walk}
 use Rattle.proof.specs.declared.walk.Walked.{Walked}
 use Rattle.proof.specs.declared.walk.Walked.the-variants.{Done, Refused}
 use Rattle.proof.specs.Slots.{Held, heldAll, heldAdded, addedCount}
-use Rattle.rules.specs.Slots.{Shows}
-use Rattle.proof.specs.Walks.{at, below, back, obligation, outcome, Forward, Answers, Proves, ProvesPremise}
+use Rattle.rules.specs.Slots.{shown}
+use Rattle.rules.proofs.Shown.{step-shown}
+use Rattle.proof.specs.Walks.{at, below, back, obligation, outcome, Forward, Proves, ProvesPremise}
 use Rattle.steps.proofs.Cases.{OfPremises}
 use Rattle.proof.proofs.Crossing.{Other, FirstAlone, step-first-alone}
 use Rattle.proof.proofs.Held.{held-added, held-shows}
@@ -32,7 +32,7 @@ use Rattle.proof.proofs.Held.{held-added, held-shows}
 -- The walk w is at a word, where `open` answered x.
 pub record Here (es : List Entry) (steps slots : List ℕ) (w : Walk) (x : Opened) : Type 0 where
   pub inside : w .next < length steps
-  pub opens : (hypotheses : List ℕ) → Shows slots hypotheses → x ≡ step es (getD steps (w .next) 0) (obligation w hypotheses)
+  pub opens : x ≡ step es (getD steps (w .next) 0) (obligation w (shown slots))
 
 -- A premise's walk answers its conclusion's.
 back-outcome : (w v : Walk) (verdict : Verdict) → back w (outcome v verdict) ≡ outcome w verdict
@@ -105,11 +105,15 @@ module _ {es : List Entry} {steps slots : List ℕ} {w : Walk} {x : Opened} (her
   abbrev premiseFrom : ℕ → List ℕ → Premise → Walked
   premiseFrom n hs p = outcome w (walkFrom same mostDepth es steps n (under (obligation w hs) p ∷ []))
 
+  -- `open` answered as for these hypotheses
+  shown-as : (hs : List ℕ) → Held hs slots (w .held) → x ≡ step es (getD steps (w .next) 0) (obligation w hs)
+  shown-as hs h = here .opens ∙ step-shown es slots hs (getD steps (w .next) 0) (w .goal) (w .depth) (held-shows h)
+
   -- the machine's answer at this word, where `open` answered x
   opened : (hs : List ℕ) → Held hs slots (w .held)
       → walkFrom same mostDepth es steps (w .next) (obligation w hs ∷ [])
       ≡ after x (refusedAt (w .next)) (λ ps. walkFrom same mostDepth es steps (suc (w .next)) (map (under (obligation w hs)) ps ++ []))
-  opened hs h = rw (here .opens hs (held-shows h)) (walk-steps same mostDepth es steps (w .next) (obligation w hs) [] (here .inside))
+  opened hs h = rw (shown-as hs h) (walk-steps same mostDepth es steps (w .next) (obligation w hs) [] (here .inside))
 
   pub refused : {number : ℕ} → x ≡ Opening.Refused number → Proves es steps slots w (Refused number (w .next))
   refused e = record { answer = λ hs h. rw (opened hs h, e); forward = tt }
@@ -128,7 +132,7 @@ module _ {es : List Entry} {steps slots : List ℕ} {w : Walk} {x : Opened} (her
 
   -- Rules 10, 1 and 3 lead to the other kind of goal, and there nothing is added.
   first-alone : (hs : List ℕ) → Held hs slots (w .held) → OfPremises (FirstAlone (w .goal)) x
-  first-alone hs h = rw (here .opens hs (held-shows h)) (step-first-alone same es mostDepth (getD steps (w .next) 0) (obligation w hs))
+  first-alone hs h = rw (shown-as hs h) (step-first-alone same es mostDepth (getD steps (w .next) 0) (obligation w hs))
 
   one-alone : (p : Premise) → x ≡ Opening.One p → Other (w .goal) (p .goal)
       → (hs : List ℕ) → Held hs slots (w .held) → p .added ≡ Nothing

@@ -1,4 +1,4 @@
--- Slots: the hypotheses held, one word for each formula number, 1 + the earliest position at which that formula is held, or 0.
+-- Slots: the hypotheses held, one number for each formula, 1 + the earliest position at which that formula is held, or 0.
 -- "Hypotheses are truths and form a set: a statement that stands twice is one hypothesis." (01) Assumes nothing.
 use Prim.Native.Nat.{ℕ, zero, suc, _+_, _<_}
 use mathlib.Core.Path.{_≡_}

@@ -9,8 +9,9 @@ use steps::verdict::Verdict;
 use table::entry::Formula;
 use table::limits::MOST_FORMULAS;
 
-// Whether the step words begin with a proof of the goal's truth from the statements: closed with the number of words that it takes, or
-// refused. The table is not tested here: whoever checks many proofs over one table tests it once.
+// The machine's verdict on the step words from the first on, for the goal's truth from the statements: closed with the number of words
+// used, or refused. Of 01's list it makes tests 9 to 14. Where 2 and 4 to 7 have passed, closed means a proof (ClosedIsDerivation); the
+// checks of records and exchanges make these tests first, and 15 last.
 pub fn check_proof(
     heads: &[u16],
     seconds: &[u16],

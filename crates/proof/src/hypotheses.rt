@@ -4,7 +4,6 @@ ghost use Prim.Native.Nat.{_+_, _<_, _^_};
 ghost use lib.ListN.{getD, set};
 ghost use Rattle.proof.specs.Slots.{heldOne, heldAdded, savedOf, releasedAdded, addedCount, heldAll};
 use steps::opened::Added;
-use table::entry::Formula;
 
 // The slots' old values, to be put back after a premise.
 pub(crate) struct Saved(pub usize, pub usize);

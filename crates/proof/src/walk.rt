@@ -13,15 +13,16 @@ use steps::goal::Goal;
 use steps::opened::Opened;
 use steps::opened::Premise;
 
-pub struct Walk {
+// The goal, the place of the next word, the depth of its step, and the count of hypotheses held.
+pub(crate) struct Walk {
     pub goal: Goal,
     pub next: usize,
     pub depth: usize,
     pub held: usize,
 }
 
-// The walk behind the last word of a proof of its goal, or a refusal.
-pub enum Walked {
+// The walk after the last word of a proof of its goal, or a refusal.
+pub(crate) enum Walked {
     Done(Walk),
     Refused { number: u8, place: usize },
 }
@@ -66,7 +67,7 @@ impl Walk {
         }
     }
 
-    // Checks a truth.
+    // Checks a truth. The depth and the count of hypotheses have room for the words that are left.
     pub(crate) fn truth(
         self,
         heads: &[u16],
@@ -117,7 +118,7 @@ impl Walk {
         }
     }
 
-    // Checks an affirmation.
+    // Checks an affirmation, with the same room.
     fn affirmation(
         self,
         heads: &[u16],

@@ -16,7 +16,7 @@ use Rattle.table.specs.declared.entry.Entry.the-variants.{Atom, False, Implies,
 use Rattle.table.specs.Choice.{pick}
 use Rattle.table.proofs.entry.Entry.{the-type}
 use Rattle.steps.specs.declared.opened.Opened.{Opened}
-use Rattle.steps.specs.Needs.{byKind, isAtom, isFalse, isImplies, isAnd, isOr, isSays, no, no₂}
+use Rattle.steps.specs.Needs.{byKind, isAtom, isFalse, isImplies, isAnd, isOr, isSays, other, other₂}
 
 -- the tag of an entry: its kind's place in 01's order
 abbrev pub tag : Entry → ℕ
@@ -31,16 +31,16 @@ abbrev pub but : ℕ → List ℕ
 but k = without k (0 ∷ 1 ∷ 2 ∷ 3 ∷ 4 ∷ 5 ∷ 6 ∷ [])
 
 -- One of the others is not k.
-other : (k x : ℕ) → T (not (hasKey (but k) k)) → OneOf (but k) x → ¬ (x ≡ k)
-other k x t h e = miss (but k) k t (subst (OneOf (but k)) e h)
+differs : (k x : ℕ) → T (not (hasKey (but k) k)) → OneOf (but k) x → ¬ (x ≡ k)
+differs k x t h e = miss (but k) k t (subst (OneOf (but k)) e h)
 
 -- what tag j answers where only tag k is needed
 abbrev only : ℕ → ℕ → Opened → Opened
-only k j next = pick (eqb j k) next no
+only k j next = pick (eqb j k) next other
 
 -- Where only tag k is needed, another is refused.
 refused : (k : ℕ) (a f : Opened) (i n o : Formula → Formula → Opened) (s : Principal → Formula → Opened) (e : Entry) → ¬ (tag e ≡ k)
-    → no
+    → other
     ≡ byKind (only k 0 a) (only k 1 f) (λ x y. only k 2 (i x y)) (λ x y. only k 3 (n x y)) (λ x y. only k 4 (o x y)) (λ x y. only k 5 (s x y)) e
 refused k a f i n o s (Atom x) h = rw (ne-eqb 0 k h)
 refused k a f i n o s False h = rw (ne-eqb 1 k h)
@@ -52,20 +52,20 @@ refused k a f i n o s IllFormed h = refl
 
 -- The law of each kind, for an entry e that the code holds as r.
 module _ {r e : Entry} (eq : r ≡ e) where
-  pub not-atom : (next : Opened) → OneOf (but 0) (tag r) → no ≡ isAtom e next
-  not-atom next h = rw (← eq) (refused 0 next no no₂ no₂ no₂ no₂ r (other 0 (tag r) tt h))
+  pub not-atom : (next : Opened) → OneOf (but 0) (tag r) → other ≡ isAtom e next
+  not-atom next h = rw (← eq) (refused 0 next other other₂ other₂ other₂ other₂ r (differs 0 (tag r) tt h))
 
-  pub not-false : (next : Opened) → OneOf (but 1) (tag r) → no ≡ isFalse e next
-  not-false next h = rw (← eq) (refused 1 no next no₂ no₂ no₂ no₂ r (other 1 (tag r) tt h))
+  pub not-false : (next : Opened) → OneOf (but 1) (tag r) → other ≡ isFalse e next
+  not-false next h = rw (← eq) (refused 1 other next other₂ other₂ other₂ other₂ r (differs 1 (tag r) tt h))
 
-  pub not-implies : (next : Formula → Formula → Opened) → OneOf (but 2) (tag r) → no ≡ isImplies e next
-  not-implies next h = rw (← eq) (refused 2 no no next no₂ no₂ no₂ r (other 2 (tag r) tt h))
+  pub not-implies : (next : Formula → Formula → Opened) → OneOf (but 2) (tag r) → other ≡ isImplies e next
+  not-implies next h = rw (← eq) (refused 2 other other next other₂ other₂ other₂ r (differs 2 (tag r) tt h))
 
-  pub not-and : (next : Formula → Formula → Opened) → OneOf (but 3) (tag r) → no ≡ isAnd e next
-  not-and next h = rw (← eq) (refused 3 no no no₂ next no₂ no₂ r (other 3 (tag r) tt h))
+  pub not-and : (next : Formula → Formula → Opened) → OneOf (but 3) (tag r) → other ≡ isAnd e next
+  not-and next h = rw (← eq) (refused 3 other other other₂ next other₂ other₂ r (differs 3 (tag r) tt h))
 
-  pub not-or : (next : Formula → Formula → Opened) → OneOf (but 4) (tag r) → no ≡ isOr e next
-  not-or next h = rw (← eq) (refused 4 no no no₂ no₂ next no₂ r (other 4 (tag r) tt h))
+  pub not-or : (next : Formula → Formula → Opened) → OneOf (but 4) (tag r) → other ≡ isOr e next
+  not-or next h = rw (← eq) (refused 4 other other other₂ other₂ next other₂ r (differs 4 (tag r) tt h))
 
-  pub not-says : (next : Principal → Formula → Opened) → OneOf (but 5) (tag r) → no ≡ isSays e next
-  not-says next h = rw (← eq) (refused 5 no no no₂ no₂ no₂ next r (other 5 (tag r) tt h))
+  pub not-says : (next : Principal → Formula → Opened) → OneOf (but 5) (tag r) → other ≡ isSays e next
+  not-says next h = rw (← eq) (refused 5 other other other₂ other₂ other₂ next r (differs 5 (tag r) tt h))

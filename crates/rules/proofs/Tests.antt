@@ -15,7 +15,8 @@ use Rattle.steps.specs.declared.opened.Opened.{Opened}
 use Rattle.steps.specs.Obligation.{Obligation, holds}
 use Rattle.steps.specs.Step.{Rule, names, plain, unknown, rules, applied, opens}
 use Rattle.steps.specs.Figure1.{same}
-use Rattle.rules.specs.Slots.{isHeld, Shows}
+use Rattle.rules.specs.Slots.{isHeld}
+use Rattle.rules.proofs.Shown.{Shows}
 use Rattle.rules.specs.Tested.{tested}
 
 -- A number has an entry where both arrays have a word.

@@ -1,16 +1,18 @@
--- Slots: a word for each formula number, other than 0 where that formula is a hypothesis. Assumes nothing.
-use Prim.Native.Nat.{ℕ, _<_}
+-- Slots: a number for each formula, other than 0 where that formula is a hypothesis. Assumes nothing.
+use Prim.Native.Nat.{ℕ, suc}
 use mathlib.Core.Bool.{Bool, not}
-use mathlib.Core.Path.{_≡_}
-use mathlib.Core.List.{List}
+use mathlib.Core.List.{List, [], _∷_}
 use lib.ListN.{getD}
 use lib.Dec.{eqb}
-use Rattle.table.specs.Limits.{mostFormulas}
-use Rattle.steps.specs.Obligation.{holds}
+use Rattle.table.specs.Choice.{pick}
 
 abbrev pub isHeld : List ℕ → ℕ → Bool
 isHeld slots n = not (eqb (getD slots n 0) 0)
 
--- These are the hypotheses that the slots show, as far as a step can name them. (For all slots there are some.)
-abbrev pub Shows : List ℕ → List ℕ → Type 0
-Shows slots hypotheses = (n : ℕ) → n < mostFormulas → isHeld slots n ≡ holds hypotheses n
+-- The hypotheses that slots show: the formulas whose slots are other than 0. The first slot is that of formula n.
+unfoldable pub shownFrom : ℕ → List ℕ → List ℕ
+shownFrom n [] = []
+shownFrom n (s ∷ slots) = pick (eqb s 0) (shownFrom (suc n) slots) (n ∷ shownFrom (suc n) slots)
+
+abbrev pub shown : List ℕ → List ℕ
+shown slots = shownFrom 0 slots

@@ -1,7 +1,5 @@
 // Tests 10 to 14 for one step, in this order.
 ghost use mathlib.Core.Path.{_≡_};
-ghost use mathlib.Core.List.{List};
-ghost use Prim.Native.Nat.{ℕ};
 ghost use lib.ListN.{length, getD};
 ghost use lib.Dec.{eqb, ltb};
 ghost use Rattle.table.specs.Choice.{pick, both};
@@ -9,7 +7,7 @@ ghost use Rattle.table.specs.Tests.{entries};
 ghost use Rattle.steps.specs.Step.{rules, unknown};
 ghost use Rattle.steps.specs.Figure1 as Figure1;
 ghost use Rattle.steps.specs.Figure1.{same};
-ghost use Rattle.rules.specs.Slots.{isHeld, Shows};
+ghost use Rattle.rules.specs.Slots.{isHeld, shown};
 ghost use Rattle.rules.specs.Tested.{tested};
 use crate::rules;
 use steps::goal::Goal;
@@ -83,7 +81,7 @@ pub fn open(
     goal: Goal,
     word: u16,
 ) -> Opened
-    ensures { λ r. ⌜ ((hypotheses : List ℕ) → Shows (now (slots .entry)) hypotheses → r ≡ Figure1.step (entries (now (heads .entry)) (now (seconds .entry))) word (record { hypotheses = hypotheses; goal = goal; depth = depth })) ⌝ }
+    ensures { λ r. ⌜ r ≡ Figure1.step (entries (now (heads .entry)) (now (seconds .entry))) word (record { hypotheses = shown (now (slots .entry)); goal = goal; depth = depth }) ⌝ }
 {
     if MOST_DEPTH < depth {
         return Opened::Refused(10);

@@ -16,7 +16,7 @@ use Rattle.steps.specs.declared.goal.Goal.the-variants.{True, Affirms}
 use Rattle.steps.specs.declared.opened.Premise.{Premise}
 use Rattle.steps.specs.declared.opened.Opened.{Opened}
 use Rattle.steps.specs.declared.opened.Opened.the-variants.{Refused, Closed, One, Two}
-use Rattle.steps.specs.Needs.{truth, affirmation, byKind, no, no₂, isAtom, isFalse, isImplies, isAnd, isOr, isSays}
+use Rattle.steps.specs.Needs.{truth, affirmation, byKind, other, other₂, isAtom, isFalse, isImplies, isAnd, isOr, isSays}
 use Rattle.steps.specs.Rules.{servedBy}
 
 -- P holds of the premises, unless there is a refusal.
@@ -75,26 +75,26 @@ module _ (P : List Premise → Type 0) where
 
   -- one kind, where the others are refused
   pub atom-cases : (e : Entry) (next : Opened) → ((a : A.Atom) → e ≡ Atom a → OfPremises P next) → OfPremises P (isAtom e next)
-  atom-cases e next p = by-kind next no no₂ no₂ no₂ no₂ e p (λ q. tt) (λ f g q. tt) (λ f g q. tt) (λ f g q. tt) (λ k f q. tt)
+  atom-cases e next p = by-kind next other other₂ other₂ other₂ other₂ e p (λ q. tt) (λ f g q. tt) (λ f g q. tt) (λ f g q. tt) (λ k f q. tt)
 
   pub false-cases : (e : Entry) (next : Opened) → (e ≡ False → OfPremises P next) → OfPremises P (isFalse e next)
-  false-cases e next p = by-kind no next no₂ no₂ no₂ no₂ e (λ a q. tt) p (λ f g q. tt) (λ f g q. tt) (λ f g q. tt) (λ k f q. tt)
+  false-cases e next p = by-kind other next other₂ other₂ other₂ other₂ e (λ a q. tt) p (λ f g q. tt) (λ f g q. tt) (λ f g q. tt) (λ k f q. tt)
 
   pub implies-cases : (e : Entry) (next : Formula → Formula → Opened)
       → ((f g : Formula) → e ≡ Implies f g → OfPremises P (next f g)) → OfPremises P (isImplies e next)
-  implies-cases e next p = by-kind no no next no₂ no₂ no₂ e (λ a q. tt) (λ q. tt) p (λ f g q. tt) (λ f g q. tt) (λ k f q. tt)
+  implies-cases e next p = by-kind other other next other₂ other₂ other₂ e (λ a q. tt) (λ q. tt) p (λ f g q. tt) (λ f g q. tt) (λ k f q. tt)
 
   pub and-cases : (e : Entry) (next : Formula → Formula → Opened)
       → ((f g : Formula) → e ≡ And f g → OfPremises P (next f g)) → OfPremises P (isAnd e next)
-  and-cases e next p = by-kind no no no₂ next no₂ no₂ e (λ a q. tt) (λ q. tt) (λ f g q. tt) p (λ f g q. tt) (λ k f q. tt)
+  and-cases e next p = by-kind other other other₂ next other₂ other₂ e (λ a q. tt) (λ q. tt) (λ f g q. tt) p (λ f g q. tt) (λ k f q. tt)
 
   pub or-cases : (e : Entry) (next : Formula → Formula → Opened)
       → ((f g : Formula) → e ≡ Or f g → OfPremises P (next f g)) → OfPremises P (isOr e next)
-  or-cases e next p = by-kind no no no₂ no₂ next no₂ e (λ a q. tt) (λ q. tt) (λ f g q. tt) (λ f g q. tt) p (λ k f q. tt)
+  or-cases e next p = by-kind other other other₂ other₂ next other₂ e (λ a q. tt) (λ q. tt) (λ f g q. tt) (λ f g q. tt) p (λ k f q. tt)
 
   pub says-cases : (e : Entry) (next : Principal → Formula → Opened)
       → ((k : Principal) (f : Formula) → e ≡ Says k f → OfPremises P (next k f)) → OfPremises P (isSays e next)
-  says-cases e next p = by-kind no no no₂ no₂ no₂ next e (λ a q. tt) (λ q. tt) (λ f g q. tt) (λ f g q. tt) (λ f g q. tt) p
+  says-cases e next p = by-kind other other other₂ other₂ other₂ next e (λ a q. tt) (λ q. tt) (λ f g q. tt) (λ f g q. tt) (λ f g q. tt) p
 
 -- ---- lists
 

@@ -2,7 +2,7 @@
 use Prim.Native.Nat.{ℕ, suc}
 use native.Mathlib.Omega.{arith}
 use mathlib.Core.Bool.{Bool}
-use mathlib.Core.Path.{_≡_, ap}
+use mathlib.Core.Path.{_≡_, ap, sym, _∙_}
 use mathlib.Core.List.{List, [], _∷_, _++_, map}
 use lib.ListN.{length}
 use lib.Dec.{eqb}
@@ -17,7 +17,7 @@ use Rattle.steps.specs.declared.verdict.Verdict.the-variants.{Closed, Re
 use Rattle.steps.specs.Obligation.{Obligation, under}
 use Rattle.steps.specs.Step.{step}
 use Rattle.steps.specs.Run.{after, allUsed, walk, run}
-use Rattle.steps.specs.Runs.{Closes}
+use Rattle.steps.specs.Runs.{Closes, ClosedUsesAll}
 use Rattle.steps.proofs.Cases.{OfPremises}
 use Rattle.steps.proofs.Applies.{Takes, step-takes}
 
@@ -34,10 +34,10 @@ after-closed P (Opening.One a) p q next h e = (a ∷ [], h, e)
 after-closed P (Opening.Two a b) p q next h e = (a ∷ b ∷ [], h, e)
 
 -- all of n words were used
-all-used-closed : (n q : ℕ) (v : Verdict) → allUsed n v ≡ Closed q → v ≡ Closed n
+all-used-closed : (n q : ℕ) (v : Verdict) → allUsed n v ≡ Closed q → (v ≡ Closed n) × (q ≡ n)
 all-used-closed n q (Closed p) =
-    pick-cases (λ v. v ≡ Closed q → Closed p ≡ Closed n) (eqb p n)
-    (λ t e. ap Closed (eqb-true p n t))
+    pick-cases (λ v. v ≡ Closed q → (Closed p ≡ Closed n) × (q ≡ n)) (eqb p n)
+    (λ t e. let f : p ≡ q = cc in (ap Closed (eqb-true p n t), sym f ∙ eqb-true p n t))
     (λ t e. absurd (refused-not-closed e))
 all-used-closed n q (Refused number p) = λ e. absurd (refused-not-closed e)
 
@@ -53,4 +53,8 @@ module _ (speaks : ℕ → ℕ → Bool) (limit : ℕ) (es : List Entry) where
   pub run-closed : (os : List Obligation) (ws : List ℕ)
       → Closes speaks limit es os ws → walk speaks limit es ws 0 os ≡ Closed (length ws)
   unfolding run
-  run-closed os ws = all-used-closed (length ws) (length ws) (walk speaks limit es ws 0 os)
+  run-closed os ws e = all-used-closed (length ws) (length ws) (walk speaks limit es ws 0 os) e .0
+
+pub closed-uses-all : (speaks : ℕ → ℕ → Bool) → ClosedUsesAll speaks
+unfolding run
+closed-uses-all speaks limit es os ws q e = all-used-closed (length ws) q (walk speaks limit es ws 0 os) e .1

@@ -11,8 +11,9 @@ use Rattle.table.specs.Tests.{entries, tableTests}
 use Rattle.table.proofs.Entries.{length-entries-equal}
 use Rattle.table.proofs.Passed.{passed-is-good}
 use Rattle.steps.specs.Runs.{Decides}
-use Rattle.steps.specs.Figure1.{same, RunsAreDerivations, TraceIsDerivations, LinePerWord}
+use Rattle.steps.specs.Figure1.{same, ClosedUsesAll, RunsAreDerivations, TraceIsDerivations, LinePerWord}
 use Rattle.steps.proofs.Has as Table
+use Rattle.steps.proofs.Closed as Closed
 use Rattle.steps.proofs.Runs as Any
 use Rattle.steps.proofs.Trace as AnyTrace
 
@@ -28,6 +29,9 @@ table-passed heads seconds passed =
       ordered = good .ordered;
       distinct = good .distinct;
     }
+
+pub closed-uses-all : ClosedUsesAll
+closed-uses-all es os ws q e = Closed.closed-uses-all same mostDepth es os ws q e
 
 pub runs-are-derivations : RunsAreDerivations
 runs-are-derivations heads seconds passed =

@@ -5,6 +5,7 @@ pub mod Holds
 pub mod Applies
 pub mod Parts
 pub mod Closed
+pub mod Prefix
 pub mod Chain
 pub mod Begins
 pub mod Derived

@@ -4,7 +4,6 @@ use Prim.Native.Nat.{ℕ, _≤_, _<_}
 use mathlib.Core.Path.{_≡_}
 use mathlib.Core.List.{List, [], _∷_, _++_}
 use lib.ListN.{length}
-use Rattle.logic.specs.Proposition.{Proposition}
 use Rattle.logic.specs.Judgment.{Judgment, truth, _affirms_}
 use Rattle.logic.specs.Hypotheses.{_∈_}
 use Rattle.logic.specs.Principals.{Relation}
@@ -34,11 +33,12 @@ abbrev pub Carried : Relation → ℕ → List Entry → List Obligation → Lis
 Carried R limit es [] ws = ws ≡ []
 Carried R limit es (o ∷ os) ws = (rest : List ℕ) × (Proved R limit es o ws rest × Carried R limit es os rest)
 
--- the numbers of a goal and of an obligation are below F
+-- the number of a goal's formula
 abbrev pub goalFormula : Goal → ℕ
 goalFormula (True f) = f .0
 goalFormula (Affirms k f) = f .0
 
+-- All numbers of an obligation are below F: 6 and 7 see to that.
 pub record InTable (es : List Entry) (o : Obligation) : Type 0 where
   pub hypotheses-in : (n : ℕ) → n ∈ o .hypotheses → n < length es
   pub goal-in : goalFormula (o .goal) < length es

@@ -46,7 +46,11 @@ trace es ws os = AnyTrace.trace same mostDepth es ws os
 abbrev pub linesOf : (es : List Entry) (os : List Obligation) (ws : List ℕ) → Carried es os ws → List Line
 linesOf es os ws carried = AnyTrace.linesOf Same mostDepth es os ws carried
 
--- In a table that passes 2, 4 and 5, the machine closes on exactly the words of derivations.
+-- A run that closes has used all its words.
+abbrev pub ClosedUsesAll : Type 0
+ClosedUsesAll = (es : List Entry) (os : List Obligation) (ws : List ℕ) (q : ℕ) → run es ws os ≡ Closed q → q ≡ length ws
+
+-- In a table that passes 2, 4 and 5, for obligations whose numbers are below F (6 and 7), the machine closes on exactly the words of derivations.
 abbrev pub RunsAreDerivations : Type 0
 RunsAreDerivations =
     (heads seconds : List ℕ) → tableTests heads seconds ≡ Passed

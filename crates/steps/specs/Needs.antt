@@ -28,26 +28,27 @@ byKind anAtom aFalse anImplies anAnd anOr aSays (Or f g) = anOr f g
 byKind anAtom aFalse anImplies anAnd anOr aSays (Says k f) = aSays k f
 byKind anAtom aFalse anImplies anAnd anOr aSays IllFormed = Refused 13
 
-abbrev pub no : Opened
-no = Refused 13
+-- any other kind is refused
+abbrev pub other : Opened
+other = Refused 13
 
-abbrev pub no₂ : {A B : Type 0} → A → B → Opened
-no₂ a b = Refused 13
+abbrev pub other₂ : {A B : Type 0} → A → B → Opened
+other₂ a b = Refused 13
 
 abbrev pub isAtom : Entry → Opened → Opened
-isAtom e next = byKind next no no₂ no₂ no₂ no₂ e
+isAtom e next = byKind next other other₂ other₂ other₂ other₂ e
 
 abbrev pub isFalse : Entry → Opened → Opened
-isFalse e next = byKind no next no₂ no₂ no₂ no₂ e
+isFalse e next = byKind other next other₂ other₂ other₂ other₂ e
 
 abbrev pub isImplies : Entry → (Formula → Formula → Opened) → Opened
-isImplies e next = byKind no no next no₂ no₂ no₂ e
+isImplies e next = byKind other other next other₂ other₂ other₂ e
 
 abbrev pub isAnd : Entry → (Formula → Formula → Opened) → Opened
-isAnd e next = byKind no no no₂ next no₂ no₂ e
+isAnd e next = byKind other other other₂ next other₂ other₂ e
 
 abbrev pub isOr : Entry → (Formula → Formula → Opened) → Opened
-isOr e next = byKind no no no₂ no₂ next no₂ e
+isOr e next = byKind other other other₂ other₂ next other₂ e
 
 abbrev pub isSays : Entry → (Principal → Formula → Opened) → Opened
-isSays e next = byKind no no no₂ no₂ no₂ next e
+isSays e next = byKind other other other₂ other₂ other₂ next e

@@ -17,7 +17,7 @@ pub record Obligation : Type 0 where
   pub goal : Goal
   pub depth : ℕ
 
--- "The steps are the derivation from the goal upward": the truth of a formula, from statements.
+-- A proof of a formula from statements "has the formula's truth as goal and the list's statements as hypotheses" (01).
 abbrev pub due : List ℕ → ℕ → Obligation
 due statements n = record { hypotheses = statements; goal = True (formula n); depth = 1 }
 

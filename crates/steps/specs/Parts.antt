@@ -1,14 +1,15 @@
 -- The walk part by part: what the code of a walk, and a check of one proof after another, lean on. Assumes nothing.
-use Prim.Native.Nat.{ℕ, suc, _+_, _-_, _<_, _≤_}
+use Prim.Native.Nat.{ℕ, _+_, _≤_}
 use mathlib.Core.Bool.{Bool}
 use mathlib.Core.Path.{_≡_}
-use mathlib.Core.List.{List, _∷_, _++_}
-use lib.ListN.{length, drop}
+use mathlib.Core.Logic.{_↔_}
+use mathlib.Core.List.{List, _++_}
+use lib.ListN.{length, take, drop}
 use Rattle.table.specs.declared.entry.Entry.{Entry}
 use Rattle.steps.specs.declared.verdict.Verdict.{Verdict}
 use Rattle.steps.specs.declared.verdict.Verdict.the-variants.{Closed, Refused}
 use Rattle.steps.specs.Obligation.{Obligation}
-use Rattle.steps.specs.Run.{walk}
+use Rattle.steps.specs.Run.{walk, run}
 
 -- closed at a place: go on from there; a refusal stands
 abbrev pub andThen : Verdict → (ℕ → Verdict) → Verdict
@@ -38,3 +39,9 @@ module _ (speaks : ℕ → ℕ → Bool) (limit : ℕ) (es : List Entry) where
   -- Places count from where the walk began: a tail of the words gives the places of the whole, moved.
   abbrev pub PlacesMove : Type 0
   PlacesMove = (ws : List ℕ) (p k : ℕ) (os : List Obligation) → walk speaks limit es ws (p + k) os ≡ later k (walk speaks limit es ws p os)
+
+  -- A walk that closes at q looks at q words and no more.
+  abbrev pub LooksNoFurther : Type 0
+  LooksNoFurther =
+      (ws : List ℕ) (q : ℕ) (os : List Obligation)
+      → walk speaks limit es ws 0 os ≡ Closed q ↔ (q ≤ length ws) × (run speaks limit es (take q ws) os ≡ Closed q)

@@ -1,10 +1,10 @@
--- 01's table of rules, row by row, over formula numbers. `at` gives the entry of a number, n is the named formula's number, and g the goal.
+-- 01's table of rules, row by row, over formula numbers. `entryAt es` gives the entry of a number, n is the named formula's number, and g the goal.
 -- Above each rule stands its row: code, name, goal below, named hypothesis, premises in order. Assumes nothing.
 --
 -- `speaks` is the one place where principals are compared: 01 has "the same K" (Figure1.antt).
 use Prim.Native.Nat.{ℕ}
 use mathlib.Core.Bool.{Bool}
-use mathlib.Core.List.{List, [], _∷_}
+use mathlib.Core.List.{List}
 use lib.Dec.{eqb}
 use Rattle.table.specs.declared.entry.Formula.{Formula}
 use Rattle.table.specs.declared.entry.Principal.{Principal}
@@ -13,7 +13,6 @@ use Rattle.table.specs.Choice.{pick}
 use Rattle.table.specs.Tests.{entryAt}
 use Rattle.steps.specs.declared.goal.Goal.{Goal}
 use Rattle.steps.specs.declared.goal.Goal.the-variants.{True, Affirms}
-use Rattle.steps.specs.declared.opened.Added as Added
 use Rattle.steps.specs.declared.opened.Added.the-variants as Adding
 use Rattle.steps.specs.declared.opened.Premise.{Premise}
 use Rattle.steps.specs.declared.opened.Opened.{Opened}

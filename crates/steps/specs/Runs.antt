@@ -24,6 +24,11 @@ Decides speaks R = (K L : ℕ) → speaks K L ≡ true ↔ R K L
 abbrev pub Closes : (ℕ → ℕ → Bool) → ℕ → List Entry → List Obligation → List ℕ → Type 0
 Closes speaks limit es os ws = run speaks limit es ws os ≡ Closed (length ws)
 
+-- A run that closes has used all its words: what remains is 15.
+abbrev pub ClosedUsesAll : (ℕ → ℕ → Bool) → Type 0
+ClosedUsesAll speaks =
+    (limit : ℕ) (es : List Entry) (os : List Obligation) (ws : List ℕ) (q : ℕ) → run speaks limit es ws os ≡ Closed q → q ≡ length ws
+
 abbrev pub RunsAreDerivations : (ℕ → ℕ → Bool) → Relation → Type 0
 RunsAreDerivations speaks R =
     (limit : ℕ) (es : List Entry) → length es ≤ mostFormulas → Ordered es → Distinct es

@@ -21,8 +21,11 @@ pub record Sample : Type 0 where
   pub steps : List ℕ
   pub verdict : Verdict
 
+abbrev pub row : List Obligation → List ℕ → Verdict → Sample
+row obligations steps verdict = record { obligations = obligations; steps = steps; verdict = verdict }
+
 abbrev pub sample : List ℕ → ℕ → List ℕ → Verdict → Sample
-sample statements goal steps verdict = record { obligations = due statements goal ∷ []; steps = steps; verdict = verdict }
+sample statements goal steps verdict = row (due statements goal ∷ []) steps verdict
 
 -- the machine gives each row's verdict
 abbrev pub Hold : List Entry → List Sample → Type 0
@@ -32,7 +35,7 @@ Hold es rows = map (λ r. run es (r .steps) (r .obligations)) rows ≡ map (λ r
 abbrev pub T : List Entry
 T = entries (0 ∷ 20487 ∷ 20488 ∷ []) (0 ∷ 0 ∷ 0 ∷ [])
 
--- | | statements | goal | steps | answer |, A to J
+-- | | statements | goal | steps | answer |, A to J. (01's record A has entries 0 and 1 only.)
 abbrev pub table : List Sample
 table =
     sample (1 ∷ []) 1 (40960 ∷ 45057 ∷ 4096 ∷ 0 ∷ []) (Closed 4)
@@ -52,7 +55,8 @@ Samples = Hold T table
 
 -- "Tests 9 to 14 run in this order at each step": where two apply, the first counts. In order: 11 before 12 (an unknown code with a part
 -- that is not held; a part of F or more in a rule that names nothing), 12 before 13 (init of what is not held, for a says-formula; of a
--- number of F or more, which "never is" a hypothesis, even where a statement has it), 12 before 14, 13 before 14 (says left of an atom, on a truth), init on an affirmation, and of a says-formula.
+-- number of F or more, which "never is" a hypothesis, even where a statement has it), 12 before 14, 13 before 14 (says left of an atom, on a truth), init on an affirmation, and of a says-formula;
+-- affirm on a truth; says left of what is not held, on an affirmation; and the largest word.
 abbrev pub order : List Sample
 order =
     sample [] 0 (49153 ∷ []) (Refused 11 0)
@@ -64,30 +68,41 @@ order =
     ∷ sample (0 ∷ []) 0 (45056 ∷ []) (Refused 13 0)
     ∷ sample (0 ∷ []) 1 (40960 ∷ 0 ∷ []) (Refused 13 1)
     ∷ sample (1 ∷ []) 1 (1 ∷ []) (Refused 13 0)
+    ∷ sample (0 ∷ []) 0 (4096 ∷ []) (Refused 13 0)
+    ∷ sample (0 ∷ []) 1 (40960 ∷ 45057 ∷ []) (Refused 12 1)
+    ∷ sample [] 0 (65535 ∷ []) (Refused 11 0)
     ∷ []
 
 abbrev pub Order : Type 0
 Order = Hold T order
 
--- "Depth 512 passes and 513 is refused 10", and 9 comes before 10: atom 0, and with itself; the last step is init.
+-- "Depth 512 passes and 513 is refused 10". The table is atom 0, and atom 0 and atom 0; statement 1, goal 0; and left n times, then the last
+-- words. In order: 512 deep; 513 deep; the words end at depth 513, 9 before 10; and an unknown code at depth 513, 10 before 11.
 abbrev pub deep : ℕ → List ℕ → Verdict → Sample
 deep n last verdict = sample (1 ∷ []) 0 (replicate n 24577 ++ last) verdict
 
 abbrev pub depths : List Sample
-depths = deep 511 (0 ∷ []) (Closed 512) ∷ deep 512 (0 ∷ []) (Refused 10 512) ∷ deep 512 [] (Refused 9 512) ∷ []
+depths = deep 511 (0 ∷ []) (Closed 512) ∷ deep 512 (0 ∷ []) (Refused 10 512) ∷ deep 512 [] (Refused 9 512) ∷ deep 512 (49152 ∷ []) (Refused 10 512) ∷ []
 
 abbrev pub Depths : Type 0
 Depths = Hold (entries (0 ∷ 12288 ∷ []) (0 ∷ 0 ∷ [])) depths
 
--- K, the exchange: "table atom 0, atom 1, their and ..: lists [2] and [0, 1], steps 24578 0 24578 1 20480 0 1: equal"
+-- K, the exchange: "table atom 0, atom 1, their and ..: lists [2] and [0, 1], steps 24578 0 24578 1 20480 0 1: equal". Then two empty lists;
+-- two proofs of which the words end in the second, or before it; a word too many between them, which is the second's first; a word after
+-- the last, and after none; and O, "table atom 0, atom 1, statement 1, goal 0, step 1: refused 13 at 0".
+abbrev pub both : List Obligation
+both = due (2 ∷ []) 0 ∷ due (2 ∷ []) 1 ∷ []
+
 abbrev pub exchange : List Sample
 exchange =
-    record {
-      obligations = due (2 ∷ []) 0 ∷ due (2 ∷ []) 1 ∷ due (0 ∷ 1 ∷ []) 2 ∷ [];
-      steps = 24578 ∷ 0 ∷ 24578 ∷ 1 ∷ 20480 ∷ 0 ∷ 1 ∷ [];
-      verdict = Closed 7;
-    }
-    ∷ record { obligations = []; steps = []; verdict = Closed 0 }
+    row (due (2 ∷ []) 0 ∷ due (2 ∷ []) 1 ∷ due (0 ∷ 1 ∷ []) 2 ∷ []) (24578 ∷ 0 ∷ 24578 ∷ 1 ∷ 20480 ∷ 0 ∷ 1 ∷ []) (Closed 7)
+    ∷ row [] [] (Closed 0)
+    ∷ row both (24578 ∷ 0 ∷ 24578 ∷ []) (Refused 9 3)
+    ∷ row both (24578 ∷ 0 ∷ []) (Refused 9 2)
+    ∷ row both (24578 ∷ 0 ∷ 0 ∷ 24578 ∷ 1 ∷ []) (Refused 12 2)
+    ∷ row both (24578 ∷ 0 ∷ 24578 ∷ 1 ∷ 0 ∷ []) (Refused 15 4)
+    ∷ row [] (0 ∷ []) (Refused 15 0)
+    ∷ row (due (1 ∷ []) 0 ∷ []) (1 ∷ []) (Refused 13 0)
     ∷ []
 
 abbrev pub Exchange : Type 0

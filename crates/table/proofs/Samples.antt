@@ -4,11 +4,14 @@ use Rattle.table.specs.First.{first}
 use Rattle.table.specs.Entry.{entry}
 use Rattle.table.specs.Tests.{entries, wrongEntry, repeatedEntry, tableTests}
 use Rattle.table.specs.Spelled.{spelledAfter, spelled}
-use Rattle.table.specs.Samples.{Samples, SpelledOut}
+use Rattle.table.specs.Samples.{Samples, Sizes, SpelledOut}
 
 pub samples : Samples
 unfolding tableTests wrongEntry repeatedEntry first entries entry
 samples = refl
+
+pub sizes : Sizes
+sizes = refl
 
 pub spelled-out : SpelledOut
 unfolding entries entry spelled spelledAfter

@@ -6,7 +6,6 @@ use mathlib.Core.Path.{_≡_}
 use mathlib.Core.Logic.{_↔_}
 use mathlib.Core.List.{List, [], _∷_}
 use lib.ListN.{length}
-use Rattle.logic.specs.Proposition.{false}
 use Rattle.logic.specs.Hypotheses.{_∈_}
 use Rattle.table.specs.declared.entry.Formula.{Formula}
 use Rattle.table.specs.declared.entry.Entry.{Entry}
@@ -42,7 +41,7 @@ OperandsLower = (es : List Entry) → Ordered es → (i : ℕ) → i < length es
 abbrev pub MadeOfOperands : Type 0
 MadeOfOperands = (es : List Entry) → Ordered es → (n : ℕ) → spell es n ≡ proposition (spelled es) (entryAt es n)
 
--- 5 finds no fault: two numbers below F with equal entries are equal.
+-- Two numbers below F with equal entries are equal; 4 and 5 together give this.
 abbrev pub Distinct : List Entry → Type 0
 Distinct es = (i j : ℕ) → i < length es → j < length es → entryAt es i ≡ entryAt es j → i ≡ j
 

@@ -1,4 +1,4 @@
--- The number of a proposition in a table: the position at which the table spells it. Assumes nothing.
+-- The number of a proposition in a table: the first position at which the table spells it, or F. Assumes nothing.
 use Prim.Native.Nat.{ℕ, zero, suc}
 use mathlib.Core.List.{List, [], _∷_}
 use mathlib.Core.Path.{_≡_}
@@ -7,7 +7,7 @@ use Rattle.logic.specs.Proposition.{Proposition, Proposition-discrete}
 use Rattle.table.specs.declared.entry.Entry.{Entry}
 use Rattle.table.specs.Spelled.{spelled}
 
--- one more, unless the two are equal
+-- 0 where the two are equal, else one more
 abbrev pub unless-equal : {A B : Proposition} → Dec (A ≡ B) → ℕ → ℕ
 unless-equal (yes e) n = zero
 unless-equal (no d) n = suc n

@@ -1,12 +1,15 @@
 -- The samples of document 01 as far as they are about tables, and where two tests apply. Proved in proofs/Samples.antt, by computation.
 -- Assumes nothing.
 use Prim.Native.Nat.{ℕ}
+use mathlib.Core.Bool.{true, false}
 use mathlib.Core.Path.{_≡_}
 use mathlib.Core.List.{List, [], _∷_, map}
-use Rattle.logic.specs.Proposition.{Proposition, atom, false, _implies_, _says_}
+use lib.ListN.{replicate}
+use Rattle.logic.specs.Proposition as P
+use Rattle.logic.specs.Proposition.{_implies_, _says_}
 use Rattle.table.specs.declared.tests.Tested.{Tested}
 use Rattle.table.specs.declared.tests.Tested.the-variants.{Passed, Refused}
-use Rattle.table.specs.Tests.{entries, tableTests}
+use Rattle.table.specs.Tests.{entries, sized, tableTests}
 use Rattle.table.specs.Spelled.{spelled}
 
 -- A row of a table of samples: heads, seconds and the answer.
@@ -20,7 +23,7 @@ sample heads seconds answer = record { heads = heads; seconds = seconds; answer 
 
 -- In order: table T; M, "a table of entries 0 and 0"; N, "first entry 20487 with second 0"; the table of K; no entry; arrays of unlike
 -- length; kind 6; an atom with a second; false with a first operand; an operand that is the entry's own number; a second of 65,535;
--- "a repeated entry at 2 and a bad one at 3", 4 before 5; and the first of two repeated entries.
+-- a repeated entry at 2 and a wrong one at 3, 4 before 5; and the first of two repeated entries.
 abbrev pub table : List Sample
 table =
     sample (0 ∷ 20487 ∷ 20488 ∷ []) (0 ∷ 0 ∷ 0 ∷ []) Passed
@@ -41,8 +44,12 @@ table =
 abbrev pub Samples : Type 0
 Samples = map (λ r. tableTests (r .heads) (r .seconds)) table ≡ map (λ r. r .answer) table
 
+-- F is 4,096 at most: test 2 of so many entries, and of one more.
+abbrev pub Sizes : Type 0
+Sizes = map (λ n. sized (replicate n 0) (replicate n 0)) (0 ∷ 1 ∷ 4096 ∷ 4097 ∷ []) ≡ false ∷ true ∷ true ∷ false ∷ []
+
 -- What table T spells out, with (7 says it) implies false after it.
 abbrev pub SpelledOut : Type 0
 SpelledOut =
     spelled (entries (0 ∷ 20487 ∷ 20488 ∷ 4096 ∷ 8193 ∷ []) (0 ∷ 0 ∷ 0 ∷ 0 ∷ 3 ∷ []))
-    ≡ atom 0 ∷ 7 says atom 0 ∷ 8 says atom 0 ∷ false ∷ (7 says atom 0) implies false ∷ []
+    ≡ P.atom 0 ∷ 7 says P.atom 0 ∷ 8 says P.atom 0 ∷ P.false ∷ (7 says P.atom 0) implies P.false ∷ []

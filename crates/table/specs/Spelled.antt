@@ -1,6 +1,7 @@
 -- The proposition that an entry spells out. "A formula is a finite tree of the kinds above"; "each number stands for the formula that its
--- entry spells out" (01). Total, and no fuel: entries are read from the front, each looks its operands up in what is already made. What is
--- no entry, is ill-formed, or uses an operand that is not lower, spells false there; under test 4 there is no such entry. Assumes nothing.
+-- entry spells out" (01). Total, and no fuel: entries are read from the front, and each looks its operands up in what is already made. A
+-- number with no entry and an ill-formed entry spell false, and so does an operand that is not lower, where it is looked up; under test 4
+-- there is none of these. Assumes nothing.
 use Prim.Native.Nat.{ℕ}
 use mathlib.Core.List.{List, [], _∷_, _++_, map}
 use lib.ListN.{getD}

@@ -5,7 +5,8 @@ ghost use Rattle.table.specs.Choice.{pick, both};
 ghost use Rattle.table.specs.Entry.{atom, entry};
 ghost use Rattle.table.specs.Tests.{entries, entryAt};
 
-// "A formula number never stands for a principal number or an atom number". Each is built only where a head or a second is taken apart.
+// "A formula number never stands for a principal number or an atom number". Each is built only where a head or a second is
+// taken apart; a Formula also from the number of a proof's goal (decision 17).
 pub struct Formula(pub u16);
 
 pub struct Principal(pub u16);

@@ -3,19 +3,20 @@
 use native.Mathlib.Omega.{arith}
 use borrow.Author.Tests.{le-leb, lt-leb}
 use Rattle.steps.specs.Step.{step}
+use Rattle.rules.proofs.Shown.{shows-shown}
 use Rattle.rules.proofs.Tests.{opened}
 use Rattle.rules.proofs.step.open.Statement.{statement}
 use Rattle.rules.proofs.step.open.Tie as tie
 
 returns : tie.Need-returns
 unfolding step
-returns c = λ hypotheses shows. rw (lt-leb (c .before .before .before .before .args .depth) 512 (omega arith))
+returns c = rw (lt-leb (c .before .before .before .before .args .depth) 512 (omega arith))
 
 returns-2 : tie.Need-returns-2
 unfolding step
-returns-2 c = λ hypotheses shows.
+returns-2 c =
     let a = c .before .before .before .before .before .before .args in
-    rw (le-leb (a .depth) 512 (omega arith)) (opened _ (a .slots .now) _ _ shows (c .before .is-hypothesis .ensures) (c .apply .ensures))
+    rw (le-leb (a .depth) 512 (omega arith)) (opened _ (a .slots .now) _ _ (shows-shown (a .slots .now)) (c .before .is-hypothesis .ensures) (c .apply .ensures))
 
 pub open-spec : {M : Type 1} → statement M
 open-spec = tie.close (tie.spec returns (λ c κs. tt) (λ c κs. tt) returns-2)
