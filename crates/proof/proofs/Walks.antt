@@ -24,7 +24,7 @@ use Rattle.proof.specs.declared.walk.Walked.the-variants.{Done, Refused}
 use Rattle.proof.specs.Slots.{Held, heldAll, heldAdded, addedCount}
 use Rattle.rules.specs.Slots.{shown}
 use Rattle.rules.proofs.Shown.{step-shown}
-use Rattle.proof.specs.Walks.{at, below, back, obligation, outcome, Forward, Proves, ProvesPremise}
+use Rattle.proof.specs.Walks.{at, below, back, obligation, outcome, Forward, AnswersGoal, AnswersPremise}
 use Rattle.steps.proofs.Cases.{OfPremises}
 use Rattle.proof.proofs.Crossing.{Other, FirstAlone, step-first-alone}
 use Rattle.proof.proofs.Held.{held-added, held-shows}
@@ -65,13 +65,13 @@ verdict-refused w (Verdicts.Refused n p) r number place e is = let f : Refused n
 
 module _ (es : List Entry) (steps slots : List ℕ) (w : Walk) where
   -- The words end.
-  pub at-end : length steps ≤ w .next → Proves es steps slots w (Refused 9 (w .next))
+  pub at-end : length steps ≤ w .next → AnswersGoal es steps slots w (Refused 9 (w .next))
   at-end l = record { answer = λ hs h. rw (walk-ends same mostDepth es steps (w .next) (obligation w hs) [] l); forward = tt }
 
   -- A premise with its hypotheses added.
   pub with-added : (p : Premise) (next : ℕ) (r : Walked)
-      → Proves es steps (heldAdded slots (p .added) (w .held)) (below w (p .goal) (addedCount (p .added)) next) r
-      → ProvesPremise es steps slots w p next (back w r)
+      → AnswersGoal es steps (heldAdded slots (p .added) (w .held)) (below w (p .goal) (addedCount (p .added)) next) r
+      → AnswersPremise es steps slots w p next (back w r)
   with-added p next r proves = record {
     answer = λ hs h.
         let v = below w (p .goal) (addedCount (p .added)) next in
@@ -84,18 +84,18 @@ module _ (es : List Entry) (steps slots : List ℕ) (w : Walk) where
 
   -- The same, by what each call of the code answered.
   pub adds : (p : Premise) (next count : ℕ) (v : Walk) (during : List ℕ) (r₁ r : Walked) → count ≡ addedCount (p .added)
-      → v ≡ below w (p .goal) count next → during ≡ heldAdded slots (p .added) (w .held) → Proves es steps during v r₁ → r ≡ back w r₁
-      → ProvesPremise es steps slots w p next r
+      → v ≡ below w (p .goal) count next → during ≡ heldAdded slots (p .added) (w .held) → AnswersGoal es steps during v r₁ → r ≡ back w r₁
+      → AnswersPremise es steps slots w p next r
   adds p next count v during r₁ r counts is held proves e = rw e (with-added p next r₁ (rw (held, is, counts) at proves))
 
   -- A premise that adds nothing, whatever hypotheses the slots hold.
   pub alone : (p : Premise) (next : ℕ) (v : Walk) (r₁ r : Walked) → ((hs : List ℕ) → Held hs slots (w .held) → p .added ≡ Nothing)
-      → v ≡ below w (p .goal) 0 next → Proves es steps slots v r₁ → r ≡ back w r₁ → ProvesPremise es steps slots w p next r
+      → v ≡ below w (p .goal) 0 next → AnswersGoal es steps slots v r₁ → r ≡ back w r₁ → AnswersPremise es steps slots w p next r
   unfolding heldAll
   alone p next v r₁ r none is proves e = record {
     answer = λ hs h.
         e ∙ with-added p next r₁
-        (subst (λ a. Proves es steps (heldAdded slots a (w .held)) (below w (p .goal) (addedCount a) next) r₁) (sym (none hs h)) (rw is at proves))
+        (subst (λ a. AnswersGoal es steps (heldAdded slots a (w .held)) (below w (p .goal) (addedCount a) next) r₁) (sym (none hs h)) (rw is at proves))
         .answer hs h;
     forward = rw e (back-forward w next r₁ (rw is at (proves .forward)));
   }
@@ -115,16 +115,16 @@ module _ {es : List Entry} {steps slots : List ℕ} {w : Walk} {x : Opened} (her
       ≡ after x (refusedAt (w .next)) (λ ps. walkFrom same mostDepth es steps (suc (w .next)) (map (under (obligation w hs)) ps ++ []))
   opened hs h = rw (shown-as hs h) (walk-steps same mostDepth es steps (w .next) (obligation w hs) [] (here .inside))
 
-  pub refused : {number : ℕ} → x ≡ Opening.Refused number → Proves es steps slots w (Refused number (w .next))
+  pub refused : {number : ℕ} → x ≡ Opening.Refused number → AnswersGoal es steps slots w (Refused number (w .next))
   refused e = record { answer = λ hs h. rw (opened hs h, e); forward = tt }
 
-  pub closed : {v : Walk} → x ≡ Opening.Closed → v ≡ at w (w .next + 1) → Proves es steps slots w (Done v)
+  pub closed : {v : Walk} → x ≡ Opening.Closed → v ≡ at w (w .next + 1) → AnswersGoal es steps slots w (Done v)
   closed e is = record {
     answer = λ hs h. rw (is, opened hs h, e, walk-done same mostDepth es) (ap (λ n. Done (at w n)) (add-one (w .next)));
     forward = rw is (omega arith);
   }
 
-  pub one : {p : Premise} {r : Walked} → x ≡ Opening.One p → ProvesPremise es steps slots w p (w .next + 1) r → Proves es steps slots w r
+  pub one : {p : Premise} {r : Walked} → x ≡ Opening.One p → AnswersPremise es steps slots w p (w .next + 1) r → AnswersGoal es steps slots w r
   one {p} {r} e proves = record {
     answer = λ hs h. rw (opened hs h, e) (proves .answer hs h ∙ ap (λ n. premiseFrom n hs p) (add-one (w .next)));
     forward = earlier (w .next) (w .next + 1) (omega arith) r (proves .forward);
@@ -144,12 +144,12 @@ module _ {es : List Entry} {steps slots : List ℕ} {w : Walk} {x : Opened} (her
 
   -- a premise of the other kind, alone or the first of two
   pub one-across : {p : Premise} {v : Walk} {r₁ r : Walked} → x ≡ Opening.One p → Other (w .goal) (p .goal)
-      → v ≡ below w (p .goal) 0 (w .next + 1) → Proves es steps slots v r₁ → r ≡ back w r₁ → Proves es steps slots w r
+      → v ≡ below w (p .goal) 0 (w .next + 1) → AnswersGoal es steps slots v r₁ → r ≡ back w r₁ → AnswersGoal es steps slots w r
   one-across {p} {v} {r₁} {r} e other is proves f = one e (alone es steps slots w p (w .next + 1) v r₁ r (one-alone p e other) is proves f)
 
   pub first-across : {p q : Premise} {v : Walk} {r₁ r : Walked} → x ≡ Opening.Two p q → Other (w .goal) (p .goal)
-      → v ≡ below w (p .goal) 0 (w .next + 1) → Proves es steps slots v r₁ → r ≡ back w r₁
-      → ProvesPremise es steps slots w p (w .next + 1) r
+      → v ≡ below w (p .goal) 0 (w .next + 1) → AnswersGoal es steps slots v r₁ → r ≡ back w r₁
+      → AnswersPremise es steps slots w p (w .next + 1) r
   first-across {p} {q} {v} {r₁} {r} e other is proves f = alone es steps slots w p (w .next + 1) v r₁ r (two-alone p q e other) is proves f
 
   -- Two premises: the second begins where the first ends. v is the first's verdict.
@@ -163,15 +163,15 @@ module _ {es : List Entry} {steps slots : List ℕ} {w : Walk} {x : Opened} (her
       rw (opened hs h, e, is, add-one (w .next)) (sym (one-after-another same mostDepth es steps (suc (w .next)) first second))
 
   pub first-refused : {p q : Premise} {r₁ : Walked} {number place : ℕ} → x ≡ Opening.Two p q
-      → ProvesPremise es steps slots w p (w .next + 1) r₁ → r₁ ≡ Refused number place → Proves es steps slots w (Refused number place)
+      → AnswersPremise es steps slots w p (w .next + 1) r₁ → r₁ ≡ Refused number place → AnswersGoal es steps slots w (Refused number place)
   first-refused {p} {q} {r₁} {number} {place} e first is = record {
     answer = λ hs h. ap (outcome w) (both p q e hs h (Verdicts.Refused number place) (verdict-refused w _ r₁ number place (first .answer hs h) is));
     forward = tt;
   }
 
   pub two : {p q : Premise} {slots₁ : List ℕ} {r₁ r : Walked} {v : Walk} → x ≡ Opening.Two p q
-      → ProvesPremise es steps slots w p (w .next + 1) r₁ → slots₁ ≡ slots → r₁ ≡ Done v
-      → ProvesPremise es steps slots₁ w q (v .next) r → Proves es steps slots w r
+      → AnswersPremise es steps slots w p (w .next + 1) r₁ → slots₁ ≡ slots → r₁ ≡ Done v
+      → AnswersPremise es steps slots₁ w q (v .next) r → AnswersGoal es steps slots w r
   two {p} {q} {slots₁} {r₁} {r} {v} e first kept is second = record {
     answer = λ hs h.
         second .answer hs (rw kept h)

@@ -6,7 +6,7 @@ use mathlib.Core.Path.{_≡_}
 use mathlib.Core.Logic.{_↔_}
 use mathlib.Core.List.{List, [], _∷_}
 use lib.ListN.{length, take}
-use Rattle.table.specs.declared.tests.Tested.the-variants.{Passed}
+use Rattle.table.specs.declared.check.Tested.the-variants.{Passed}
 use Rattle.table.specs.Tests.{entries, tableTests}
 use Rattle.steps.specs.declared.verdict.Verdict.{Verdict}
 use Rattle.steps.specs.declared.verdict.Verdict.the-variants.{Closed}

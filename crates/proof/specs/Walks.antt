@@ -60,8 +60,8 @@ pub record Answers (es : List Entry) (steps slots : List ℕ) (w : Walk) (next :
   pub forward : Forward next r
 
 -- what a walk's own goal comes to, and a premise of it from word next on
-abbrev pub Proves : List Entry → List ℕ → List ℕ → Walk → Walked → Type 0
-Proves es steps slots w r = Answers es steps slots w (w .next) (obligation w) r
+abbrev pub AnswersGoal : List Entry → List ℕ → List ℕ → Walk → Walked → Type 0
+AnswersGoal es steps slots w r = Answers es steps slots w (w .next) (obligation w) r
 
-abbrev pub ProvesPremise : List Entry → List ℕ → List ℕ → Walk → Premise → ℕ → Walked → Type 0
-ProvesPremise es steps slots w p next r = Answers es steps slots w next (λ hypotheses. under (obligation w hypotheses) p) r
+abbrev pub AnswersPremise : List Entry → List ℕ → List ℕ → Walk → Premise → ℕ → Walked → Type 0
+AnswersPremise es steps slots w p next r = Answers es steps slots w next (λ hypotheses. under (obligation w hypotheses) p) r

@@ -77,7 +77,7 @@ impl Walk {
     ) -> Walked
         requires { ⌜ Walks.IsTruth (self .goal) ⌝ }
         requires { ⌜ self .depth + self .held + 3 * (length (now steps) - self .next) < 2 ^ 64 ⌝ }
-        ensures { λ r. ⌜ Walks.Proves (entries (now (heads .entry)) (now (seconds .entry))) (now (steps .entry)) (now (slots .entry)) self r ⌝ }
+        ensures { λ r. ⌜ Walks.AnswersGoal (entries (now (heads .entry)) (now (seconds .entry))) (now (steps .entry)) (now (slots .entry)) self r ⌝ }
         ensures { λ r. ⌜ now (slots .exit) ≡ now (slots .entry) ⌝ }
     {
         let next = self.next;
@@ -128,7 +128,7 @@ impl Walk {
     ) -> Walked
         requires { ⌜ Walks.IsAffirmation (self .goal) ⌝ }
         requires { ⌜ self .depth + self .held + 3 * (length (now steps) - self .next) < 2 ^ 64 ⌝ }
-        ensures { λ r. ⌜ Walks.Proves (entries (now (heads .entry)) (now (seconds .entry))) (now (steps .entry)) (now (slots .entry)) self r ⌝ }
+        ensures { λ r. ⌜ Walks.AnswersGoal (entries (now (heads .entry)) (now (seconds .entry))) (now (steps .entry)) (now (slots .entry)) self r ⌝ }
         ensures { λ r. ⌜ now (slots .exit) ≡ now (slots .entry) ⌝ }
     {
         let next = self.next;
@@ -202,7 +202,7 @@ impl Walk {
         slots: &mut [usize],
     ) -> Walked
         requires { ⌜ self .depth + self .held + 3 + 3 * (length (now steps) - next) < 2 ^ 64 ⌝ }
-        ensures { λ r. ⌜ Walks.ProvesPremise (entries (now (heads .entry)) (now (seconds .entry))) (now (steps .entry)) (now (slots .entry)) self premise next r ⌝ }
+        ensures { λ r. ⌜ Walks.AnswersPremise (entries (now (heads .entry)) (now (seconds .entry))) (now (steps .entry)) (now (slots .entry)) self premise next r ⌝ }
         ensures { λ r. ⌜ now (slots .exit) ≡ now (slots .entry) ⌝ }
     {
         let goal = premise.goal;

@@ -100,7 +100,7 @@ pub(crate) fn implies_left(heads: &[u16], seconds: &[u16], n: u16, goal: Goal) -
     Opened::Two(alone(Goal::True(a)), adding(goal, b))
 }
 
-// 4 | false left | any | false | none
+// 4 | false left | any | false | none. The goal is not looked at.
 pub(crate) fn false_left(heads: &[u16], seconds: &[u16], n: u16) -> Opened
     ensures { λ r. ⌜ r ≡ isFalse (entryAt (entries (now (heads .entry)) (now (seconds .entry))) n) Opened.Closed ⌝ }
 {

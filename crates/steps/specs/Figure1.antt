@@ -10,7 +10,7 @@ use lib.Dec.{eqb}
 use Rattle.logic.specs.Hypotheses.{_∈_}
 use Rattle.logic.specs.Figure1.{Same}
 use Rattle.table.specs.declared.entry.Entry.{Entry}
-use Rattle.table.specs.declared.tests.Tested.the-variants.{Passed}
+use Rattle.table.specs.declared.check.Tested.the-variants.{Passed}
 use Rattle.table.specs.Limits.{mostDepth}
 use Rattle.table.specs.Tests.{entries, tableTests}
 use Rattle.steps.specs.declared.opened.Opened.{Opened}

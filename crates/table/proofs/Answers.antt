@@ -7,7 +7,7 @@ use lib.ListN.{length}
 use lib.Dec.{eqb, leb}
 use borrow.Author.Tests.{eqb-true, leb-true}
 use Rattle.table.specs.declared.place.Place.the-variants.{At, Nowhere}
-use Rattle.table.specs.declared.tests.Tested.the-variants.{Passed, Refused}
+use Rattle.table.specs.declared.check.Tested.the-variants.{Passed, Refused}
 use Rattle.table.specs.Choice.{both}
 use Rattle.table.specs.Limits.{mostFormulas}
 use Rattle.table.specs.Tests.{entries, wrongEntry, repeatedEntry, sized, tableTests}

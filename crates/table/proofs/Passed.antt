@@ -4,8 +4,8 @@ use native.Mathlib.Omega.{arith}
 use mathlib.Core.Path.{_≡_, refl}
 use Rattle.table.specs.declared.place.Place.{Place}
 use Rattle.table.specs.declared.place.Place.the-variants.{At, Nowhere}
-use Rattle.table.specs.declared.tests.Tested.{Tested}
-use Rattle.table.specs.declared.tests.Tested.the-variants.{Passed, Refused}
+use Rattle.table.specs.declared.check.Tested.{Tested}
+use Rattle.table.specs.declared.check.Tested.the-variants.{Passed, Refused}
 use Rattle.table.specs.Tests.{entries, wrongEntry, repeatedEntry, refusedAt, sized, tableTests}
 use Rattle.table.specs.Laws.{Good, PassedIsGood}
 use Rattle.table.proofs.Choice.{pick-cases}

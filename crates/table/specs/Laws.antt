@@ -11,7 +11,7 @@ use Rattle.table.specs.declared.entry.Formula.{Formula}
 use Rattle.table.specs.declared.entry.Entry.{Entry}
 use Rattle.table.specs.declared.entry.Entry.the-variants.{Atom, False, Implies, And, Or, Says, IllFormed}
 use Rattle.table.specs.declared.place.Place.the-variants.{Nowhere}
-use Rattle.table.specs.declared.tests.Tested.the-variants.{Passed}
+use Rattle.table.specs.declared.check.Tested.the-variants.{Passed}
 use Rattle.table.specs.Limits.{mostFormulas}
 use Rattle.table.specs.Tests.{entries, entryAt, right, wrongEntry, repeatedEntry, tableTests}
 use Rattle.table.specs.Spelled.{proposition, spelled, spell}

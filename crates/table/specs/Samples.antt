@@ -7,8 +7,8 @@ use mathlib.Core.List.{List, [], _∷_, map}
 use lib.ListN.{replicate}
 use Rattle.logic.specs.Proposition as P
 use Rattle.logic.specs.Proposition.{_implies_, _says_}
-use Rattle.table.specs.declared.tests.Tested.{Tested}
-use Rattle.table.specs.declared.tests.Tested.the-variants.{Passed, Refused}
+use Rattle.table.specs.declared.check.Tested.{Tested}
+use Rattle.table.specs.declared.check.Tested.the-variants.{Passed, Refused}
 use Rattle.table.specs.Tests.{entries, sized, tableTests}
 use Rattle.table.specs.Spelled.{spelled}
 

@@ -9,8 +9,8 @@ use Rattle.table.specs.declared.entry.Entry.{Entry}
 use Rattle.table.specs.declared.entry.Entry.the-variants.{Atom, False, Implies, And, Or, Says, IllFormed}
 use Rattle.table.specs.declared.place.Place.{Place}
 use Rattle.table.specs.declared.place.Place.the-variants.{At, Nowhere}
-use Rattle.table.specs.declared.tests.Tested.{Tested}
-use Rattle.table.specs.declared.tests.Tested.the-variants.{Passed, Refused}
+use Rattle.table.specs.declared.check.Tested.{Tested}
+use Rattle.table.specs.declared.check.Tested.the-variants.{Passed, Refused}
 use Rattle.table.specs.Limits.{mostFormulas}
 use Rattle.table.specs.Choice.{pick, both}
 use Rattle.table.specs.First.{first, found}

@@ -9,7 +9,7 @@ use mathlib.Core.Logic.{⊎-elim}
 use denote.Ref.{now}
 use lib.ListN.{length}
 use Rattle.table.specs.Tests.{entries}
-use Rattle.proof.specs.Walks.{Proves, ProvesPremise}
+use Rattle.proof.specs.Walks.{AnswersGoal, AnswersPremise}
 use Rattle.proof.proofs.Slots.{few-added, restored}
 use Rattle.proof.proofs.Crossing.{truth-to-affirmation, affirmation-to-truth}
 use Rattle.proof.proofs.Walks.{Here, forward-done, at-end, adds, refused, closed, one, one-across, first-across, first-refused, two}
@@ -123,7 +123,7 @@ truth-claims t = (
 adding-joined : (t : ℕ) (c : adding-lts.At-match-came (adding-claims t) (adding-at t) adding.Post) →
     let held = c .before .before .before in
     let start = held .before .before .before .before .before .before .before .before in
-    Proves (entries (now (start .args .heads)) (now (start .args .seconds))) (now (start .args .steps)) (held .hold-added .last .0)
+    AnswersGoal (entries (now (start .args .heads)) (now (start .args .seconds))) (now (start .args .steps)) (held .hold-added .last .0)
     (held .before .before .below .result) (c .match .walked)
     × (c .match .slots ≡ held .hold-added .last .0)
 adding-joined t c =
@@ -193,7 +193,7 @@ affirmation-here t c = record { inside = c .before .before .before .if1 .left; o
 -- The first premise of two, a truth or an affirmation, is proved, and the slots are as they were.
 affirmation-first : (t : ℕ) (c : affirmation-lts.At-match3-came (affirmation-claims t) (affirmation-at t) affirmation.Post) →
     let start = c .before .before .before .before .before .before .before .before .before .before .before .before in
-    ProvesPremise (entries (now (start .args .heads)) (now (start .args .seconds))) (now (start .args .steps)) (now (start .args .slots))
+    AnswersPremise (entries (now (start .args .heads)) (now (start .args .seconds))) (now (start .args .steps)) (now (start .args .slots))
     (start .args .self) (c .before .before .first .given .0 .0) (start .args .self .next + 1) (c .match3 .walked)
     × (c .match3 .slots ≡ now (start .args .slots))
 affirmation-first t c =

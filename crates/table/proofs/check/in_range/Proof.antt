@@ -1,7 +1,7 @@
--- `table::tests::in_range` meets its contract: the second bound is asked only if the first holds. Assumes nothing.
+-- `table::check::in_range` meets its contract: the second bound is asked only if the first holds. Assumes nothing.
 use borrow.Author.Tests.{le-leb, lt-leb}
-use Rattle.table.proofs.tests.in_range.Statement.{statement}
-use Rattle.table.proofs.tests.in_range.Tie as tie
+use Rattle.table.proofs.check.in_range.Statement.{statement}
+use Rattle.table.proofs.check.in_range.Tie as tie
 
 returns : tie.Need-returns
 returns c = simp (le-leb _ _ (c .if1 .taken))

@@ -1,10 +1,10 @@
--- `table::tests::is_sized` meets its contract: the range is asked only if the lengths are equal. Assumes nothing.
+-- `table::check::is_sized` meets its contract: the range is asked only if the lengths are equal. Assumes nothing.
 use borrow.Author.Tests.{eq-eqb, ne-eqb}
 use native.Mathlib.Omega.{arith}
 use lib.ListN.{length}
 use borrow.Author.Needs.{needs}
-use Rattle.table.proofs.tests.is_sized.Statement.{statement}
-use Rattle.table.proofs.tests.is_sized.Tie as tie
+use Rattle.table.proofs.check.is_sized.Statement.{statement}
+use Rattle.table.proofs.check.is_sized.Tie as tie
 
 returns : tie.Need-returns
 returns c =

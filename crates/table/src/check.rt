@@ -29,7 +29,7 @@ fn is_sized(heads: &[u16], seconds: &[u16]) -> bool
 }
 
 // 2, 4 and 5. "5 .. tested after 4 has passed the whole table"
-pub fn table_tests(heads: &[u16], seconds: &[u16]) -> Tested
+pub fn check_table(heads: &[u16], seconds: &[u16]) -> Tested
     ensures { λ r. ⌜ r ≡ tableTests (now (heads .entry)) (now (seconds .entry)) ⌝ }
 {
     if !is_sized(heads, seconds) {

@@ -1,4 +1,4 @@
--- `table::tests::table_tests` meets its contract: each answer is a case of `tableTests`, and 2 leaves the sizes that 5 needs. Assumes
+-- `table::check::check_table` meets its contract: each answer is a case of `tableTests`, and 2 leaves the sizes that 5 needs. Assumes
 -- nothing.
 use mathlib.Core.Bool.{true}
 use mathlib.Core.Path.{_≡_, sym, _∙_}
@@ -6,8 +6,8 @@ use borrow.Author.Needs.{needs}
 use borrow.Author.Tests.{not-true, not-false}
 use Rattle.table.specs.Tests.{sized}
 use Rattle.table.proofs.Answers.{sizes, refused-2, refused-4, refused-5, passed}
-use Rattle.table.proofs.tests.table_tests.Statement.{statement}
-use Rattle.table.proofs.tests.table_tests.Tie as tie
+use Rattle.table.proofs.check.check_table.Statement.{statement}
+use Rattle.table.proofs.check.check_table.Tie as tie
 
 returns : tie.Need-returns
 returns c = sym (refused-2 _ _ (sym (c .before .is-sized .ensures) ∙ not-true _ (c .if1 .taken)))
@@ -38,8 +38,8 @@ returns-4 c =
     (passed _ _ (passed-2 (w .before)) (sym (w .wrong-entry .ensures) ∙ c .before .before .before .enum-told .given .1)
     (sym (c .before .before .repeated-entry .ensures) ∙ c .enum-told2 .given .1))
 
-pub table-tests-spec : {M : Type 1} → statement M
-table-tests-spec =
+pub check-table-spec : {M : Type 1} → statement M
+check-table-spec =
     tie.close
     (tie.spec
     (λ c κs. search needs)
