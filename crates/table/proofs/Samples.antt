@@ -1,10 +1,12 @@
 -- The samples hold, by computation. Assumes nothing.
 use mathlib.Core.Path.{refl}
+use native.Mathlib.Decide.{ℕ-discrete}
 use Rattle.table.specs.First.{first}
 use Rattle.table.specs.Entry.{entry}
 use Rattle.table.specs.Tests.{entries, wrongEntry, repeatedEntry, tableTests}
 use Rattle.table.specs.Spelled.{spelledAfter, spelled}
-use Rattle.table.specs.Samples.{Samples, Sizes, SpelledOut}
+use Rattle.table.specs.Number.{position, number}
+use Rattle.table.specs.Samples.{Samples, Sizes, SpelledOut, Numbers}
 
 pub samples : Samples
 unfolding tableTests wrongEntry repeatedEntry first entries entry
@@ -16,3 +18,7 @@ sizes = refl
 pub spelled-out : SpelledOut
 unfolding entries entry spelled spelledAfter
 spelled-out = refl
+
+pub numbers : Numbers
+unfolding number position spelled spelledAfter entries entry ℕ-discrete
+numbers = refl

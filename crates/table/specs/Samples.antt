@@ -11,6 +11,7 @@ use Rattle.table.specs.declared.check.Tested.{Tested}
 use Rattle.table.specs.declared.check.Tested.the-variants.{Passed, Refused}
 use Rattle.table.specs.Tests.{entries, sized, tableTests}
 use Rattle.table.specs.Spelled.{spelled}
+use Rattle.table.specs.Number.{number}
 
 -- A row of a table of samples: heads, seconds and the answer.
 pub record Sample : Type 0 where
@@ -21,8 +22,8 @@ pub record Sample : Type 0 where
 abbrev pub sample : List ℕ → List ℕ → Tested → Sample
 sample heads seconds answer = record { heads = heads; seconds = seconds; answer = answer }
 
--- In order: table T; M, "a table of entries 0 and 0"; N, "first entry 20487 with second 0"; the table of K; no entry; arrays of unlike
--- length; kind 6; an atom with a second; false with a first operand; an operand that is the entry's own number; a second of 65,535;
+-- In order: table T; M, "a table of entries 0 and 0"; N, "first entry 20487 with second 0"; the table of K; each kind once; no entry;
+-- arrays of unlike length; kind 6; an atom with a second; false with a first operand; an operand that is the entry's own number; a second of 65,535;
 -- a repeated entry at 2 and a wrong one at 3, 4 before 5; and the first of two repeated entries.
 abbrev pub table : List Sample
 table =
@@ -30,6 +31,7 @@ table =
     ∷ sample (0 ∷ 0 ∷ []) (0 ∷ 0 ∷ []) (Refused 5 1)
     ∷ sample (20487 ∷ []) (0 ∷ []) (Refused 4 0)
     ∷ sample (0 ∷ 1 ∷ 12288 ∷ []) (0 ∷ 0 ∷ 1 ∷ []) Passed
+    ∷ sample (0 ∷ 4096 ∷ 8192 ∷ 12288 ∷ 16384 ∷ 20480 ∷ []) (0 ∷ 0 ∷ 1 ∷ 1 ∷ 1 ∷ 1 ∷ []) Passed
     ∷ sample [] [] (Refused 2 0)
     ∷ sample (0 ∷ 1 ∷ []) (0 ∷ []) (Refused 2 0)
     ∷ sample (0 ∷ 24576 ∷ []) (0 ∷ 0 ∷ []) (Refused 4 1)
@@ -53,3 +55,9 @@ abbrev pub SpelledOut : Type 0
 SpelledOut =
     spelled (entries (0 ∷ 20487 ∷ 20488 ∷ 4096 ∷ 8193 ∷ []) (0 ∷ 0 ∷ 0 ∷ 0 ∷ 3 ∷ []))
     ≡ P.atom 0 ∷ 7 says P.atom 0 ∷ 8 says P.atom 0 ∷ P.false ∷ (7 says P.atom 0) implies P.false ∷ []
+
+-- The numbers of what table T spells, and of what it does not.
+abbrev pub Numbers : Type 0
+Numbers =
+    map (number (entries (0 ∷ 20487 ∷ 20488 ∷ []) (0 ∷ 0 ∷ 0 ∷ []))) (P.atom 0 ∷ 7 says P.atom 0 ∷ 8 says P.atom 0 ∷ P.atom 7 ∷ [])
+    ≡ 0 ∷ 1 ∷ 2 ∷ 3 ∷ []
