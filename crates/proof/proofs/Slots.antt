@@ -42,9 +42,6 @@ unfolding heldAll
 length-held-all s [] p = refl
 length-held-all s (n ∷ ns) p = length-held-all (heldOne s n p) ns (p + 1) ∙ length-set s n _
 
-pub length-held-added : (s : List ℕ) (a : Added) (p : ℕ) → length (heldAdded s a p) ≡ length s
-length-held-added s a p = length-held-all s (added a) p
-
 -- ---- what is held and taken back leaves the slots as they were
 
 -- One formula, held and put back.

@@ -56,8 +56,8 @@ Samples = Hold T table
 -- "Tests 9 to 14 run in this order at each step": where two apply, the first counts. In order: 11 before 12 (an unknown code with a part
 -- that is not held; a part of F or more in a rule that names nothing), 12 before 13 (init of what is not held, for a says-formula; of a
 -- number of F or more, which "never is" a hypothesis, even where a statement has it), 12 before 14, 13 before 14 (says left of an atom, on a
--- truth); init on an affirmation, and of a says-formula; affirm on a truth; says left of what is not held, on an affirmation; and the largest
--- word.
+-- truth); init on an affirmation, and of a says-formula; affirm on a truth; says left of what is not held, on an affirmation; the largest
+-- word; and a goal of F or more, which is ill-formed.
 abbrev pub order : List Sample
 order =
     sample [] 0 (49153 ∷ []) (Refused 11 0)
@@ -72,6 +72,7 @@ order =
     ∷ sample (0 ∷ []) 0 (4096 ∷ []) (Refused 13 0)
     ∷ sample (0 ∷ []) 1 (40960 ∷ 45057 ∷ []) (Refused 12 1)
     ∷ sample [] 0 (65535 ∷ []) (Refused 11 0)
+    ∷ sample [] 99 (20480 ∷ []) (Refused 13 0)
     ∷ []
 
 abbrev pub Order : Type 0
