@@ -6,6 +6,7 @@ pub mod Applies
 pub mod Parts
 pub mod Closed
 pub mod Prefix
+pub mod Alike
 pub mod Chain
 pub mod Begins
 pub mod Derived

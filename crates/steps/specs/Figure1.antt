@@ -1,10 +1,10 @@
 -- The machine of document 01 itself: "the same K" for code 11, and depth at most 512. Records, exchanges and code cite it from here.
 -- Proved in proofs/Figure1.antt. Assumes nothing.
-use Prim.Native.Nat.{ℕ}
+use Prim.Native.Nat.{ℕ, _≤_}
 use mathlib.Core.Bool.{Bool}
 use mathlib.Core.Path.{_≡_}
 use mathlib.Core.Logic.{_↔_}
-use mathlib.Core.List.{List}
+use mathlib.Core.List.{List, [], _∷_}
 use lib.ListN.{length}
 use lib.Dec.{eqb}
 use Rattle.logic.specs.Hypotheses.{_∈_}
@@ -15,10 +15,11 @@ use Rattle.table.specs.Limits.{mostDepth}
 use Rattle.table.specs.Tests.{entries, tableTests}
 use Rattle.steps.specs.declared.opened.Opened.{Opened}
 use Rattle.steps.specs.declared.verdict.Verdict.{Verdict}
-use Rattle.steps.specs.declared.verdict.Verdict.the-variants.{Closed}
+use Rattle.steps.specs.declared.verdict.Verdict.the-variants.{Closed, Refused}
 use Rattle.steps.specs.Obligation.{Obligation}
 use Rattle.steps.specs.Step as Any
 use Rattle.steps.specs.Run as AnyRun
+use Rattle.steps.specs.Alike.{Alike}
 use Rattle.steps.specs.Carried as AnyCarried
 use Rattle.steps.specs.Carried.{InTable}
 use Rattle.steps.specs.Trace as AnyTrace
@@ -49,6 +50,16 @@ linesOf es os ws carried = AnyTrace.linesOf Same mostDepth es os ws carried
 -- A run that closes has used all its words.
 abbrev pub ClosedUsesAll : Type 0
 ClosedUsesAll = (es : List Entry) (os : List Obligation) (ws : List ℕ) (q : ℕ) → run es ws os ≡ Closed q → q ≡ length ws
+
+-- "Hypotheses are truths and form a set": obligations that are alike get one verdict.
+abbrev pub HypothesesAreASet : Type 0
+HypothesesAreASet = (es : List Entry) (o o′ : Obligation) → Alike o o′ → (ws : List ℕ) → run es ws (o ∷ []) ≡ run es ws (o′ ∷ [])
+
+-- A run is refused by 9 to 15, at one of its words or after the last.
+abbrev pub RefusedInRange : Type 0
+RefusedInRange =
+    (es : List Entry) (ws : List ℕ) (os : List Obligation) (number p : ℕ)
+    → run es ws os ≡ Refused number p → (9 ≤ number) × (number ≤ 15) × (p ≤ length ws)
 
 -- In a table that passes 2, 4 and 5, for obligations whose numbers are below F (6 and 7), the machine closes on exactly the words of derivations.
 abbrev pub RunsAreDerivations : Type 0

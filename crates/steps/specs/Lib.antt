@@ -6,6 +6,7 @@ pub mod Rules
 pub mod Step
 pub mod Run
 pub mod Parts
+pub mod Alike
 pub mod Words
 pub mod Carried
 pub mod Runs
