@@ -1,0 +1,35 @@
+// "A file of 16-bit words, low byte first" (01).
+ghost use Prim.Native.Nat.{_+_, _*_};
+ghost use mathlib.Core.Path.{_≡_};
+ghost use Rattle.lent.specs.Written.{written};
+ghost use Rattle.file.specs.Words.{fileWords, wordAt};
+
+// A word of its two bytes.
+fn word(low: u8, high: u8) -> u16
+    ensures { λ r. ⌜ r ≡ low + 256 * high ⌝ }
+{
+    low as u16 + 256 * (high as u16)
+}
+
+// The word at a position, 0 past the end.
+pub fn word_at(file: &[u8], i: usize) -> u16
+    ensures { λ r. ⌜ r ≡ wordAt (now (file .entry)) i ⌝ }
+{
+    if i < file.len() / 2 {
+        word(file[2 * i], file[2 * i + 1])
+    } else {
+        0
+    }
+}
+
+// The words of a file, written from the start of `words`, as far as it goes.
+pub fn read_words(file: &[u8], words: &mut [u16])
+    ensures { λ _. ⌜ now (words .exit) ≡ written (now (words .entry)) (fileWords (now (file .entry))) ⌝ }
+{
+    let count = file.len() / 2;
+    let mut i = 0;
+    while i < count && i < words.len() {
+        words[i] = word(file[2 * i], file[2 * i + 1]);
+        i += 1;
+    }
+}
