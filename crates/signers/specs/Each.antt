@@ -1,0 +1,58 @@
+-- What holds of the signers in whatever order they stand: "each once, in any order" (01). Proved in proofs/. Assumes nothing.
+use Prim.Native.Nat.{ℕ, _≤_}
+use mathlib.Core.Path.{_≡_}
+use mathlib.Core.Logic.{_↔_}
+use mathlib.Core.List.{List, [], _∷_}
+use lib.ListN.{length}
+use Rattle.logic.specs.Hypotheses.{_∈_}
+use Rattle.logic.specs.Proposition.{Proposition, _says_}
+use Rattle.table.specs.declared.entry.Entry.{Entry}
+use Rattle.table.specs.declared.entry.Entry.the-variants.{Says}
+use Rattle.table.specs.declared.entry.Formula.{Formula}
+use Rattle.table.specs.Entry.{principal}
+use Rattle.table.specs.Laws.{Ordered}
+use Rattle.table.specs.Spelled.{spellAll}
+use Rattle.table.specs.Tests.{entryAt}
+use Rattle.signers.specs.Signers.{signers}
+
+-- K is "the principal of a statement of the form K says A".
+pub record Signs (es : List Entry) (statements : List ℕ) (K : ℕ) : Type 0 where
+  pub statement : ℕ
+  pub stands : statement ∈ statements
+  pub said : Formula
+  pub is : entryAt es statement ≡ Says (principal K) said
+
+-- no number stands twice
+abbrev pub EachOnce : List ℕ → Type 0
+EachOnce [] = Unit
+EachOnce (k ∷ ks) = (¬ (k ∈ ks)) × EachOnce ks
+
+-- these are the signers, each once; their order is free
+pub record AreSigners (es : List Entry) (statements ks : List ℕ) : Type 0 where
+  pub each : (K : ℕ) → K ∈ ks ↔ Signs es statements K
+  pub once : EachOnce ks
+
+abbrev pub SignersAre : Type 0
+SignersAre = (es : List Entry) (statements : List ℕ) → AreSigners es statements (signers es statements)
+
+-- In any order there are as many.
+abbrev pub OneCount : Type 0
+OneCount = (es : List Entry) (statements ks : List ℕ) → AreSigners es statements ks → length ks ≡ length (signers es statements)
+
+-- There are no more signers than statements.
+abbrev pub NoMoreThanStatements : Type 0
+NoMoreThanStatements = (es : List Entry) (statements : List ℕ) → length (signers es statements) ≤ length statements
+
+-- Over propositions: K signs exactly when a statement spells K says A, for some A.
+pub record SaysSome (es : List Entry) (statements : List ℕ) (K : ℕ) : Type 0 where
+  pub said : Proposition
+  pub stands : (K says said) ∈ spellAll es statements
+
+abbrev pub SignsSpelled : Type 0
+SignsSpelled = (es : List Entry) → Ordered es → (statements : List ℕ) (K : ℕ) → Signs es statements K ↔ SaysSome es statements K
+
+-- Lists of statements with the same members have the same signers: "a statement that stands twice" makes no other.
+abbrev pub SameSigners : Type 0
+SameSigners =
+    (es : List Entry) (some others : List ℕ) → ((n : ℕ) → n ∈ some ↔ n ∈ others)
+    → (ks : List ℕ) → AreSigners es some ks ↔ AreSigners es others ks

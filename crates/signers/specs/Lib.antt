@@ -1,0 +1,4 @@
+-- The signers of statements over a table. Collected is for a private function.
+pub mod Signers
+pub mod Each
+pub mod Collected

@@ -1,0 +1,2 @@
+// The signers of statements over a table.
+pub mod collect;
