@@ -1,0 +1,67 @@
+-- The machine closes on the steps of a file that keeps the layout exactly when they are a proof of its goal. Assumes nothing.
+use Prim.Native.Nat.{ℕ}
+use native.Mathlib.Omega.{arith}
+use mathlib.Core.Path.{_≡_, refl, sym, subst, _∙_}
+use mathlib.Core.Logic.{_↔_}
+use mathlib.Core.List.{List, [], _∷_, append-nil, List·Memᴰ·eq-of-singleton}
+use lib.ListN.{length}
+use Rattle.logic.specs.Hypotheses.{_∈_}
+use Rattle.table.specs.declared.check.Tested.the-variants.{Passed}
+use Rattle.table.specs.Limits.{mostFormulas}
+use Rattle.table.specs.Number.{number}
+use Rattle.table.specs.Tests.{tableTests}
+use Rattle.table.proofs.Answers.{passed}
+use Rattle.table.proofs.Ordered.{no-fault-ordered}
+use Rattle.steps.specs.declared.verdict.Verdict.the-variants.{Closed}
+use Rattle.steps.specs.Obligation.{Obligation, due}
+use Rattle.steps.specs.Words.{words}
+use Rattle.steps.specs.Carried.{InTable}
+use Rattle.steps.specs.Figure1.{Carried}
+use Rattle.steps.proofs.Figure1.{runs-are-derivations}
+use Rattle.record.specs.Layout.{goal, heads, seconds, statements, steps, table}
+use Rattle.record.specs.Answer.{stepVerdict}
+use Rattle.record.specs.Proof.{Keeps, IsProof}
+use Rattle.record.proofs.Lengths.{length-heads, length-seconds, length-table}
+use Rattle.file.proofs.Asked.{at-most, equal, both-are}
+use Rattle.record.proofs.Keeps.{none-repeated}
+
+module _ (file : List ℕ) where
+  -- A derivation whose words are the steps, and nothing after them.
+  is-carried : Carried (table file) (due (statements file) (goal file) ∷ []) (steps file) ↔ IsProof file
+  is-carried = (
+    λ (rest, (proved, none)). record {
+      derivation = proved .derivation;
+      within = proved .within;
+      words = proved .begins ∙ rw none (append-nil (words (number (table file)) (proved .derivation)));
+    },
+    λ p. ([], (record { derivation = p .derivation; within = p .within; begins = p .words ∙ sym (append-nil _) }, refl)),
+  )
+
+  module _ (keeps : Keeps file) where
+    -- The table passes 2, 4 and 5,
+    pub table-passes : tableTests (heads file) (seconds file) ≡ Passed
+    table-passes =
+        let fits = keeps .sized in
+        let hs = length-heads file fits in
+        let ss = length-seconds file fits in
+        let some = fits .in-range .some-formulas in
+        let few = fits .in-range .few-formulas in
+        let alike = equal (length (heads file)) (length (seconds file)) in
+        let range = both-are (at-most 1 (length (heads file))) (at-most (length (heads file)) mostFormulas) in
+        passed (heads file) (seconds file) (both-are alike range .1 (hs ∙ sym ss, (omega arith, omega arith)))
+        (no-fault-ordered (table file) .1 (keeps .ordered))
+        (none-repeated (heads file) (seconds file) .1 (keeps .none-repeated))
+
+    -- and all numbers are in it.
+    in-table : (o : Obligation) → o ∈ due (statements file) (goal file) ∷ [] → InTable (table file) o
+    in-table o m =
+        let sized = length-table file (keeps .sized) in
+        subst (InTable (table file)) (sym (List·Memᴰ·eq-of-singleton m)) record {
+          hypotheses-in = λ n stands. let below = keeps .statements-in n stands in omega arith;
+          goal-in = let below = keeps .goal-in in omega arith;
+        }
+
+    pub closes-on-proof : stepVerdict file ≡ Closed (length (steps file)) ↔ IsProof file
+    closes-on-proof =
+        let (to, from) = runs-are-derivations (heads file) (seconds file) table-passes (due (statements file) (goal file) ∷ []) in-table (steps file) in
+        (λ e. is-carried .0 (to e), λ p. from (is-carried .1 p))

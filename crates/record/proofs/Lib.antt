@@ -1,0 +1,17 @@
+-- The theorems whose statements are in specs/, and the lemmas behind them; then the laws behind the code.
+pub mod Lengths
+pub mod Keeps
+pub mod Answered
+pub mod IsProof
+pub mod Granted
+pub mod Reasons
+pub mod Refused
+pub mod Small
+pub mod Longer
+pub mod SameSet
+pub mod Samples
+pub mod LayoutTests
+pub mod ArrayTests
+pub mod StepTests
+pub mod Contents
+pub mod Whole

@@ -1,0 +1,104 @@
+-- Hypotheses form a set: records that differ only in how often and in which order their statements stand have one answer, and the same
+-- signers (specs/Promises.antt, `StatementsAreASet` and `StatedTwice`). Assumes nothing.
+use Prim.Native.Nat.{ℕ, _<_}
+use mathlib.Core.Path.{_≡_, refl, sym, ap, ap₂, subst, _∙_}
+use mathlib.Core.Logic.{_↔_, Iff·symm}
+use mathlib.Core.List.{List, [], _∷_}
+use lib.ListN.{length}
+use Rattle.logic.specs.Hypotheses.{_∈_}
+use Rattle.table.specs.declared.entry.Entry.{Entry}
+use Rattle.table.specs.Entry.{formula}
+use Rattle.table.specs.Tests.{entries, wrongEntry, repeatedEntry}
+use Rattle.steps.specs.declared.goal.Goal.the-variants.{True}
+use Rattle.steps.specs.Alike.{Alike}
+use Rattle.steps.specs.Obligation.{due}
+use Rattle.steps.specs.Figure1.{run}
+use Rattle.steps.proofs.Figure1.{hypotheses-are-a-set}
+use Rattle.file.specs.Refusals.{test}
+use Rattle.signers.specs.Each.{AreSigners}
+use Rattle.signers.proofs.Each.{signers-are, one-count, same-signers}
+use Rattle.record.specs.Layout.{formulas, goal, statements, steps, table, signers}
+use Rattle.record.specs.Answer.{tooShort, sizeOutside, otherLength, goalOutside, statementOutside, listShort, tests, stepVerdict, recordAnswer}
+use Rattle.record.specs.Proof.{Sized}
+use Rattle.record.specs.Promises.{SameSet, StatementsAreASet, StatedTwice}
+use Rattle.record.proofs.Lengths.{length-heads}
+use Rattle.record.proofs.Keeps.{sized, statements-in}
+use Rattle.record.proofs.Granted.{granted-exactly}
+
+-- The other way round.
+turned : {file other : List ℕ} → SameSet file other → SameSet other file
+turned s = record {
+  same-heads = sym (s .same-heads);
+  same-seconds = sym (s .same-seconds);
+  same-goal = sym (s .same-goal);
+  same-steps = sym (s .same-steps);
+  same-statements = λ n. Iff·symm (s .same-statements n);
+}
+
+module _ (file other : List ℕ) (s : SameSet file other) where
+  same-table : table file ≡ table other
+  same-table = ap₂ entries (s .same-heads) (s .same-seconds)
+
+  -- They have the same signers,
+  same-names : (names : List ℕ) → AreSigners (table file) (statements file) names ↔ AreSigners (table other) (statements other) names
+  same-names names =
+      subst (λ (es : List Entry). AreSigners (table file) (statements file) names ↔ AreSigners es (statements other) names) same-table
+      (same-signers (table file) (statements file) (statements other) (s .same-statements) names)
+
+  -- as many,
+  same-count : length (signers file) ≡ length (signers other)
+  same-count = one-count (table other) (statements other) (signers file) (same-names (signers file) .0 (signers-are (table file) (statements file)))
+
+  -- and the machine comes to the same.
+  same-due : Alike (due (statements file) (goal file)) (due (statements other) (goal other))
+  same-due = record { same-goal = ap (λ (n : ℕ). True (formula n)) (s .same-goal); same-depth = refl; same-set = s .same-statements }
+
+  same-verdict : stepVerdict file ≡ stepVerdict other
+  same-verdict =
+      hypotheses-are-a-set (table file) _ _ same-due (steps file)
+      ∙ ap₂ (λ (es : List Entry) (ws : List ℕ). run es ws (due (statements other) (goal other) ∷ [])) same-table (s .same-steps)
+
+  module _ (fits : Sized file) (fits′ : Sized other) (below : (n : ℕ) → n ∈ statements file → n < formulas file) (room : ℕ) where
+    -- Their tables are as long, and 7 doesn't apply to the other either.
+    same-formulas : formulas file ≡ formulas other
+    same-formulas = sym (length-heads file fits) ∙ ap length (s .same-heads) ∙ length-heads other fits′
+
+    below′ : (n : ℕ) → n ∈ statements other → n < formulas other
+    below′ n m = subst (λ (F : ℕ). n < F) same-formulas (below n (s .same-statements n .1 m))
+
+    -- 1 to 3 and 7 don't apply to either, and the others look at what is the same.
+    same-tests : tests file room ≡ tests other room
+    same-tests =
+        let (one, two, three) = sized file .1 fits in
+        let (one′, two′, three′) = sized other .1 fits′ in
+        let first : tooShort file ≡ tooShort other = one ∙ sym one′ in
+        let second : sizeOutside file ≡ sizeOutside other = two ∙ sym two′ in
+        let third : otherLength file ≡ otherLength other = three ∙ sym three′ in
+        let fourth : wrongEntry (table file) ≡ wrongEntry (table other) = ap wrongEntry same-table in
+        let fifth = ap₂ repeatedEntry (s .same-heads) (s .same-seconds) in
+        let sixth : goalOutside file ≡ goalOutside other = cc (same-formulas, s .same-goal) in
+        let seventh : statementOutside file ≡ statementOutside other = statements-in file .1 below ∙ sym (statements-in other .1 below′) in
+        let eighth : listShort file room ≡ listShort other room = cc same-count in
+        λ i.
+        test 1 (first i) ∷ test 2 (second i) ∷ test 3 (third i) ∷ test 4 (fourth i) ∷ test 5 (fifth i) ∷ test 6 (sixth i) ∷ test 7 (seventh i)
+        ∷ test 8 (eighth i) ∷ []
+
+    same-answer : recordAnswer file room ≡ recordAnswer other room
+    unfolding recordAnswer
+    same-answer = cc (same-tests, same-verdict, same-count)
+
+pub statements-are-a-set : StatementsAreASet
+statements-are-a-set file other fits fits′ s below room = same-answer file other s fits fits′ below room
+
+pub stated-twice : StatedTwice
+stated-twice file other fits fits′ s = (
+  λ room count. (
+    λ e.
+        let r = granted-exactly file room count .0 e in
+        sym (same-answer file other s fits fits′ (r .keeps .statements-in) room) ∙ e,
+    λ e.
+        let r = granted-exactly other room count .0 e in
+        sym (same-answer other file (turned s) fits′ fits (r .keeps .statements-in) room) ∙ e,
+  ),
+  same-names file other s,
+)

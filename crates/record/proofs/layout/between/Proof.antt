@@ -1,0 +1,13 @@
+-- `record::layout::between` meets its contract: the second bound is asked only if the first holds. Assumes nothing.
+use borrow.Author.Tests.{le-leb, lt-leb}
+use Rattle.record.proofs.layout.between.Statement.{statement}
+use Rattle.record.proofs.layout.between.Tie as tie
+
+returns : tie.Need-returns
+returns c = simp (le-leb _ _ (c .if1 .taken))
+
+returns-2 : tie.Need-returns-2
+returns-2 c = simp (lt-leb _ _ (c .if1 .left))
+
+pub between-spec : {M : Type 1} → statement M
+between-spec = tie.close (tie.spec returns returns-2)

@@ -1,0 +1,76 @@
+-- What the private functions of the check answer: the tests in three parts, 1 to 3 over the file, 4 to 8 over its arrays, 9 to 15 over the steps.
+-- Together they are `recordAnswer`. Assumes nothing.
+use Prim.Native.Nat.{ℕ, _+_, _*_}
+use mathlib.Core.Bool.{true}
+use mathlib.Core.Path.{_≡_}
+use mathlib.Core.List.{List, [], _∷_}
+use lib.ListN.{length, getD}
+use lib.Dec.{ltb, leb}
+use Rattle.table.specs.declared.place.Place.{Place}
+use Rattle.table.specs.declared.check.Tested.{Tested}
+use Rattle.table.specs.declared.check.Tested.the-variants as T
+use Rattle.table.specs.Limits.{mostFormulas, mostStatements, mostSteps}
+use Rattle.table.specs.First.{first}
+use Rattle.table.specs.Tests.{entries, sized, wrongEntry, repeatedEntry}
+use Rattle.steps.specs.declared.verdict.Verdict as Step
+use Rattle.steps.specs.declared.verdict.Verdict.the-variants as Steps
+use Rattle.steps.specs.Obligation.{due}
+use Rattle.steps.specs.Figure1.{run}
+use Rattle.lent.specs.Written.{written}
+use Rattle.file.specs.Refusals.{Test, test, at0, firstRefusal}
+use Rattle.signers.specs.Signers.{signers}
+use Rattle.record.specs.declared.layout.Sizes.{Sizes}
+use Rattle.record.specs.declared.verdict.Verdict.{Verdict}
+use Rattle.record.specs.declared.verdict.Verdict.the-variants.{Granted, Refused}
+use Rattle.record.specs.Layout.{formulas, statementCount, stepCount}
+use Rattle.record.specs.Answer.{tooShort, sizeOutside, otherLength, afterTests}
+
+-- the sizes of a file
+abbrev pub sizesOf : List ℕ → Sizes
+sizesOf file = record { formulas = formulas file; statements = statementCount file; steps = stepCount file }
+
+-- the words of the longest record
+abbrev pub mostWords : ℕ
+mostWords = 4 + 2 * mostFormulas + mostStatements + mostSteps
+
+-- 1 to 3
+abbrev pub layoutTests : List ℕ → Tested
+layoutTests file = firstRefusal (test 1 (tooShort file) ∷ test 2 (sizeOutside file) ∷ test 3 (otherLength file) ∷ [])
+
+-- the first number of F or more
+abbrev pub outside : ℕ → List ℕ → Place
+outside F numbers = first (λ i. leb F (getD numbers i 0)) (length numbers)
+
+-- 4 to 8, for a table of F entries
+abbrev pub arrayTests : List ℕ → List ℕ → List ℕ → ℕ → ℕ → Tested
+arrayTests heads seconds statements goal room =
+    firstRefusal
+    (test 4 (wrongEntry (entries heads seconds))
+    ∷ test 5 (repeatedEntry heads seconds)
+    ∷ test 6 (at0 (leb (length heads) goal))
+    ∷ test 7 (outside (length heads) statements)
+    ∷ test 8 (at0 (ltb room (length (signers (entries heads seconds) statements))))
+    ∷ [])
+
+-- 9 to 15
+abbrev pub tested : Step.Verdict → Tested
+tested (Steps.Closed q) = T.Passed
+tested (Steps.Refused number place) = T.Refused number place
+
+abbrev pub stepTests : List ℕ → List ℕ → List ℕ → ℕ → List ℕ → Tested
+stepTests heads seconds statements goal steps = tested (run (entries heads seconds) steps (due statements goal ∷ []))
+
+-- 4 to 15, over arrays of a size that 2 allows
+abbrev pub arraysAnswer : List ℕ → List ℕ → List ℕ → ℕ → List ℕ → ℕ → Verdict
+arraysAnswer heads seconds statements goal steps room =
+    afterTests (arrayTests heads seconds statements goal room)
+    (afterTests (stepTests heads seconds statements goal steps) (Granted (length (signers (entries heads seconds) statements))))
+
+-- what is then in the lent list
+abbrev pub listAfter : Verdict → List ℕ → List ℕ → List ℕ → List ℕ → List ℕ
+listAfter (Granted count) heads seconds statements before = written before (signers (entries heads seconds) statements)
+listAfter (Refused number place) heads seconds statements before = before
+
+-- two arrays of the length that 2 asks of a table
+abbrev pub SizedTable : List ℕ → List ℕ → Type 0
+SizedTable heads seconds = sized heads seconds ≡ true

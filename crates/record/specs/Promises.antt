@@ -1,0 +1,65 @@
+-- What is promised of the answers: demands 1 and 2 for records. Each is proved in proofs/ under its name in small letters. Assumes nothing.
+use Prim.Native.Nat.{ℕ, suc, _≤_, _<_}
+use mathlib.Core.Path.{_≡_}
+use mathlib.Core.Logic.{_↔_}
+use mathlib.Core.List.{List}
+use lib.ListN.{length, take}
+use Rattle.logic.specs.Hypotheses.{_∈_}
+use Rattle.table.specs.Limits.{mostStatements, mostSteps}
+use Rattle.signers.specs.Each.{AreSigners}
+use Rattle.record.specs.declared.verdict.Verdict.{Verdict}
+use Rattle.record.specs.declared.verdict.Verdict.the-variants.{Granted, Refused}
+use Rattle.record.specs.Layout.{formulas, goal, heads, seconds, statements, steps, mostBytes, table, signers}
+use Rattle.record.specs.Answer.{recordAnswer}
+use Rattle.record.specs.Proof.{Sized, Keeps, IsProof}
+use Rattle.record.specs.Reasons.{FirstReason}
+
+-- What a grant says. "A record that keeps the layout and its limits, whose words are a proof of its goal and whose signers fit the list lent
+-- for them, is granted with its signers." "Within the limits, and with a list long enough for the signers, the checker grants every such
+-- proof and nothing else." (demands 1 and 2)
+pub record Releases (file : List ℕ) (room count : ℕ) : Type 0 where
+  pub keeps : Keeps file
+  pub is-proof : IsProof file
+  pub fits : length (signers file) ≤ room
+  pub counted : count ≡ length (signers file)
+
+abbrev pub GrantedExactly : Type 0
+GrantedExactly = (file : List ℕ) (room count : ℕ) → recordAnswer file room ≡ Granted count ↔ Releases file room count
+
+-- "Every other file, of any bytes and length, is refused by the first reason in the fixed order that applies, with its place" (demand 1)
+abbrev pub RefusedExactly : Type 0
+RefusedExactly = (file : List ℕ) (room number p : ℕ) → recordAnswer file room ≡ Refused number p ↔ FirstReason file room number p
+
+-- How large an answer can be.
+abbrev pub Small : Verdict → Type 0
+Small (Granted count) = count ≤ mostStatements
+Small (Refused number p) = (1 ≤ number) × (number ≤ 15) × (p ≤ mostSteps)
+
+abbrev pub AnswersSmall : Type 0
+AnswersSmall = (file : List ℕ) (room : ℕ) → Small (recordAnswer file room)
+
+-- A file longer than the longest record has the answer of its first bytes, one more than the longest record has.
+abbrev pub LongerFile : Type 0
+LongerFile = (file : List ℕ) (room : ℕ) → mostBytes < length file → recordAnswer file room ≡ recordAnswer (take (suc mostBytes) file) room
+
+-- Two records of one table, goal and steps, whose statements are the same set, as where one of them stands twice.
+pub record SameSet (file other : List ℕ) : Type 0 where
+  pub same-heads : heads file ≡ heads other
+  pub same-seconds : seconds file ≡ seconds other
+  pub same-goal : goal file ≡ goal other
+  pub same-steps : steps file ≡ steps other
+  pub same-statements : (n : ℕ) → n ∈ statements file ↔ n ∈ statements other
+
+-- Within the limits of the layout they have the same answer, unless 7 applies, whose place may differ;
+abbrev pub StatementsAreASet : Type 0
+StatementsAreASet =
+    (file other : List ℕ) → Sized file → Sized other → SameSet file other
+    → ((n : ℕ) → n ∈ statements file → n < formulas file)
+    → (room : ℕ) → recordAnswer file room ≡ recordAnswer other room
+
+-- so one is granted exactly when the other is, with the same signers. "They put a statement in twice and think it weighs double." (00)
+abbrev pub StatedTwice : Type 0
+StatedTwice =
+    (file other : List ℕ) → Sized file → Sized other → SameSet file other
+    → ((room count : ℕ) → recordAnswer file room ≡ Granted count ↔ recordAnswer other room ≡ Granted count)
+    × ((names : List ℕ) → AreSigners (table file) (statements file) names ↔ AreSigners (table other) (statements other) names)

@@ -1,0 +1,49 @@
+-- Demands 1 and 2 in plain words: what a record is "that keeps the layout and its limits, whose words are a proof of its goal". Assumes nothing.
+use Prim.Native.Nat.{ℕ, _≤_, _<_}
+use mathlib.Core.Path.{_≡_}
+use mathlib.Core.List.{List}
+use lib.ListN.{length, getD}
+use Rattle.logic.specs.Hypotheses.{_∈_}
+use Rattle.logic.specs.Judgment.{truth}
+use Rattle.logic.specs.Depth.{stepDepths}
+use Rattle.logic.specs.Figure1.{Derivation}
+use Rattle.table.specs.Limits.{mostFormulas, mostStatements, mostSteps, mostDepth}
+use Rattle.table.specs.Laws.{Ordered}
+use Rattle.table.specs.Spelled.{spell, spellAll}
+use Rattle.table.specs.Number.{number}
+use Rattle.steps.specs.Words as Derived
+use Rattle.record.specs.Layout.{formulas, statementCount, stepCount, goal, heads, seconds, statements, steps, size, table}
+
+-- "F formulas (1 to 4,096), S statements (0 to 256), N steps (1 to 16,384)"
+pub record InRange (file : List ℕ) : Type 0 where
+  pub some-formulas : 1 ≤ formulas file
+  pub few-formulas : formulas file ≤ mostFormulas
+  pub few-statements : statementCount file ≤ mostStatements
+  pub some-steps : 1 ≤ stepCount file
+  pub few-steps : stepCount file ≤ mostSteps
+
+-- The sizes are in their ranges, and the length is theirs: 1 to 3 don't apply.
+pub record Sized (file : List ℕ) : Type 0 where
+  pub in-range : InRange file
+  pub length-is : length file ≡ size file
+
+-- no two entries have the same head and second
+abbrev pub NoneRepeated : List ℕ → List ℕ → Type 0
+NoneRepeated heads seconds =
+    (i j : ℕ) → i < j → j < length heads
+    → getD heads i 0 ≡ getD heads j 0 → getD seconds i 0 ≡ getD seconds j 0 → ⊥
+
+-- "keeps the layout and its limits": 1 to 7 don't apply
+pub record Keeps (file : List ℕ) : Type 0 where
+  pub sized : Sized file
+  pub ordered : Ordered (table file)
+  pub none-repeated : NoneRepeated (heads file) (seconds file)
+  pub goal-in : goal file < formulas file
+  pub statements-in : (n : ℕ) → n ∈ statements file → n < formulas file
+
+-- "whose words are a proof of its goal": a derivation in Figure 1 of what the goal's number spells, from what the statements' numbers spell.
+-- Its words are the step words, and none of its steps is deeper than 512.
+pub record IsProof (file : List ℕ) : Type 0 where
+  pub derivation : Derivation (spellAll (table file) (statements file)) (truth (spell (table file) (goal file)))
+  pub within : (d : ℕ) → d ∈ stepDepths 1 derivation → d ≤ mostDepth
+  pub words : steps file ≡ Derived.words (number (table file)) derivation
