@@ -10,8 +10,12 @@ use Rattle.file.specs.Words.{fileWords, fileOf}
 use Rattle.file.specs.Refusals.{firstRefusal}
 use Rattle.signers.specs.Signers.{joinedAll, signers}
 use Rattle.record.specs.Answer.{recordAnswer}
-use Rattle.record.specs.Samples.{Samples}
+use Rattle.record.specs.Samples.{Samples, Order}
 
 pub samples : Samples
 unfolding recordAnswer fileWords fileOf firstRefusal wrongEntry repeatedEntry first joinedAll signers run walk step opens holds entries entry
 samples = refl
+
+pub order : Order
+unfolding recordAnswer fileWords fileOf firstRefusal wrongEntry repeatedEntry first joinedAll signers run walk step opens holds entries entry
+order = refl

@@ -60,11 +60,15 @@ tested (Steps.Refused number place) = T.Refused number place
 abbrev pub stepTests : List ℕ → List ℕ → List ℕ → ℕ → List ℕ → Tested
 stepTests heads seconds statements goal steps = tested (run (entries heads seconds) steps (due statements goal ∷ []))
 
+-- where no test refuses: granted, with the number of signers
+abbrev pub granted : List ℕ → List ℕ → List ℕ → Verdict
+granted heads seconds statements = Granted (length (signers (entries heads seconds) statements))
+
 -- 4 to 15, over arrays of a size that 2 allows
 abbrev pub arraysAnswer : List ℕ → List ℕ → List ℕ → ℕ → List ℕ → ℕ → Verdict
 arraysAnswer heads seconds statements goal steps room =
     afterTests (arrayTests heads seconds statements goal room)
-    (afterTests (stepTests heads seconds statements goal steps) (Granted (length (signers (entries heads seconds) statements))))
+    (afterTests (stepTests heads seconds statements goal steps) (granted heads seconds statements))
 
 -- what is then in the lent list
 abbrev pub listAfter : Verdict → List ℕ → List ℕ → List ℕ → List ℕ → List ℕ

@@ -39,5 +39,30 @@ rows =
     ∷ row (overT (0 ∷ []) 1 (40960 ∷ 4096 ∷ 0 ∷ 0 ∷ [])) 256 (Refused 15 3)
     ∷ []
 
+-- each row has its answer
+abbrev pub Hold : List Sample → Type 0
+Hold samples = map (λ r. recordAnswer (fileOf (r .words)) (r .room)) samples ≡ map (λ r. r .answer) samples
+
 abbrev pub Samples : Type 0
-Samples = map (λ r. recordAnswer (fileOf (r .words)) (r .room)) rows ≡ map (λ r. r .answer) rows
+Samples = Hold rows
+
+-- "Refused, in checking order": each of 1 to 8, and where two apply the first counts. In order: no byte at all; F is 0, and the length is wrong; a
+-- word too many; N and M, as records; a repeated entry at 1 and a wrong one at 2; the goal and a statement of F or more; a statement of F or more at
+-- 1; A with no room for its signer, and so with a wrong step; and B with no room, which it needs none of.
+abbrev pub order : List Sample
+order =
+    row [] 256 (Refused 1 0)
+    ∷ row (0 ∷ 0 ∷ 1 ∷ 0 ∷ 0 ∷ []) 256 (Refused 2 0)
+    ∷ row (1 ∷ 0 ∷ 1 ∷ 0 ∷ 0 ∷ 0 ∷ 0 ∷ 0 ∷ []) 256 (Refused 3 0)
+    ∷ row (1 ∷ 0 ∷ 1 ∷ 0 ∷ 20487 ∷ 0 ∷ 0 ∷ []) 256 (Refused 4 0)
+    ∷ row (2 ∷ 0 ∷ 1 ∷ 0 ∷ 0 ∷ 0 ∷ 0 ∷ 0 ∷ 0 ∷ []) 256 (Refused 5 1)
+    ∷ row (3 ∷ 0 ∷ 1 ∷ 0 ∷ 0 ∷ 0 ∷ 20487 ∷ 0 ∷ 0 ∷ 2 ∷ 0 ∷ []) 256 (Refused 4 2)
+    ∷ row (overT (3 ∷ []) 3 (0 ∷ [])) 256 (Refused 6 0)
+    ∷ row (overT (0 ∷ 3 ∷ []) 0 (0 ∷ [])) 256 (Refused 7 1)
+    ∷ row (overT (1 ∷ []) 1 (40960 ∷ 45057 ∷ 4096 ∷ 0 ∷ [])) 0 (Refused 8 0)
+    ∷ row (overT (1 ∷ []) 1 (49152 ∷ [])) 0 (Refused 8 0)
+    ∷ row (overT (0 ∷ []) 1 (40960 ∷ 4096 ∷ 0 ∷ [])) 0 (Granted 0)
+    ∷ []
+
+abbrev pub Order : Type 0
+Order = Hold order

@@ -4,7 +4,7 @@ ghost use mathlib.Core.Path.{_≡_};
 ghost use lib.ListN.{length};
 ghost use Rattle.record.specs.Answer.{recordAnswer};
 ghost use Rattle.record.specs.Lent.{Left};
-ghost use Rattle.record.specs.Parts.{mostWords, arraysAnswer, listAfter, SizedTable};
+ghost use Rattle.record.specs.Parts.{mostWords, granted, arraysAnswer, listAfter, SizedTable};
 ghost use Rattle.record.specs.Proof.{Sized};
 use crate::arrays::check_arrays;
 use crate::ending::check_steps;
@@ -16,6 +16,14 @@ use file::words::read_words;
 use file::words::word_at;
 use signers::collect::write_signers;
 use table::check::Tested;
+
+// "Granted gives their count": the signers go into the list, which is long enough since 8 has passed.
+fn grant(heads: &[u16], seconds: &[u16], statements: &[u16], signers: &mut [u16]) -> Verdict
+    ensures { λ r. ⌜ r ≡ granted (now (heads .entry)) (now (seconds .entry)) (now (statements .entry)) ⌝ }
+    ensures { λ r. ⌜ now (signers .exit) ≡ listAfter r (now (heads .entry)) (now (seconds .entry)) (now (statements .entry)) (now (signers .entry)) ⌝ }
+{
+    Verdict::Granted(write_signers(heads, seconds, statements, signers))
+}
 
 // 4 to 15, and the signers' list: written only once all tests have passed.
 fn check_contents(
@@ -48,7 +56,7 @@ fn check_contents(
     ) {
         return Verdict::Refused { number, place };
     }
-    Verdict::Granted(write_signers(heads, seconds, statements, signers))
+    grant(heads, seconds, statements, signers)
 }
 
 // 4 to 15 of a file that 1 to 3 let pass. Its words are read into `words`, which has room for the longest record's.

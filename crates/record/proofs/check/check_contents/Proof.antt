@@ -2,7 +2,7 @@
 use mathlib.Core.Path.{refl, sym, ap, _∙_}
 use borrow.Author.Needs.{needs}
 use Rattle.lent.proofs.Written.{written-length}
-use Rattle.record.proofs.Contents.{refused-to-8, refused-to-15, granted}
+use Rattle.record.proofs.Contents.{refused-to-8, refused-to-15, granted-by-all}
 use Rattle.record.proofs.check.check_contents.Statement.{statement}
 use Rattle.record.proofs.check.check_contents.Tie as tie
 
@@ -31,9 +31,9 @@ returns-3 c =
     let u = w .before .before .before .before in
     let t = u .before .before .before in
     let a = t .before .before .before .before .before .before .args in (
-      granted (a .heads .now) (a .seconds .now) (a .statements .now) (a .goal) (a .steps .now) _ (t .check-arrays .ensures) (u .before .enum-told .given .1)
-          (u .check-steps .ensures) (w .before .before .enum-told2 .given .1) (w .write-signers .ensures .0),
-      w .write-signers .ensures .1,
+      granted-by-all (a .heads .now) (a .seconds .now) (a .statements .now) (a .goal) (a .steps .now) _ (t .check-arrays .ensures) (u .before .enum-told .given .1)
+          (u .check-steps .ensures) (w .before .before .enum-told2 .given .1) (w .grant .ensures .0),
+      w .grant .ensures .1,
     )
 
 pub check-contents-spec : {M : Type 1} → statement M

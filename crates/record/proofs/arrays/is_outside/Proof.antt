@@ -1,0 +1,10 @@
+-- `record::arrays::is_outside` meets its contract. Assumes nothing.
+use borrow.Author.Needs.{needs}
+use Rattle.record.proofs.arrays.is_outside.Statement.{statement}
+use Rattle.record.proofs.arrays.is_outside.Tie as tie
+
+returns : tie.Need-returns
+returns c = search needs
+
+pub is-outside-spec : {M : Type 1} → statement M
+is-outside-spec = tie.close (tie.spec returns)
