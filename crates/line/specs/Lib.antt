@@ -1,0 +1,3 @@
+-- The line that a program prints for an answer, and samples of lines.
+pub mod RecordLine
+pub mod Samples

@@ -1,0 +1,41 @@
+-- Samples of lines: those of 01, "Record A prints `granted 1 7`, sample C prints `refused 14 place 0`", and a few more. Proved in
+-- proofs/Samples.antt, by computation. Assumes nothing.
+use Prim.Native.Nat.{ℕ}
+use Prim.Native.String.{String}
+use mathlib.Core.Path.{_≡_}
+use mathlib.Core.List.{List, [], _∷_, map}
+use Rattle.text.specs.Ascii.{ascii}
+use Rattle.file.specs.Words.{fileOf}
+use Rattle.record.specs.declared.verdict.Verdict.{Verdict}
+use Rattle.record.specs.declared.verdict.Verdict.the-variants.{Granted, Refused}
+use Rattle.record.specs.Answer.{recordAnswer}
+use Rattle.record.specs.Samples.{overT}
+use Rattle.line.specs.RecordLine.{recordLine}
+
+-- a row: the answer, the lent list, and the line
+pub record Sample : Type 0 where
+  pub answer : Verdict
+  pub signers : List ℕ
+  pub line : String
+
+abbrev pub row : Verdict → List ℕ → String → Sample
+row answer signers line = record { answer = answer; signers = signers; line = line }
+
+-- the answer for a file of these words, with a list of 256 words lent, as the program does
+abbrev pub answerOf : List ℕ → Verdict
+answerOf words = recordAnswer (fileOf words) 256
+
+-- Of the lent list only the signers are printed, and no blank stands after the last of them, nor after a count of 0.
+abbrev pub rows : List Sample
+rows =
+    row (Granted 1) (7 ∷ 0 ∷ []) "granted 1 7\n"
+    ∷ row (Granted 0) (5 ∷ []) "granted 0\n"
+    ∷ row (Granted 2) (8 ∷ 4095 ∷ 0 ∷ []) "granted 2 8 4095\n"
+    ∷ row (Refused 14 0) [] "refused 14 place 0\n"
+    ∷ row (Refused 9 16384) (7 ∷ []) "refused 9 place 16384\n"
+    ∷ row (answerOf (2 ∷ 1 ∷ 4 ∷ 1 ∷ 0 ∷ 20487 ∷ 0 ∷ 0 ∷ 1 ∷ 40960 ∷ 45057 ∷ 4096 ∷ 0 ∷ [])) (7 ∷ []) "granted 1 7\n"
+    ∷ row (answerOf (overT (1 ∷ []) 0 (45057 ∷ []))) [] "refused 14 place 0\n"
+    ∷ []
+
+abbrev pub Samples : Type 0
+Samples = map (λ r. recordLine (r .answer) (r .signers)) rows ≡ map (λ r. ascii (r .line)) rows
