@@ -1,0 +1,2 @@
+-- An answer as one number, for C and Rust.
+pub mod Code

@@ -1,0 +1,55 @@
+/*
+ * Wethrynda: the check of a release record, for C. The library is target/staticlib/libffi.a, for x86-64 Linux; `rt staticlib ffi` at the top of
+ * the repository makes it. Link it by its path, as examples/check.c is linked: another library has the name `ffi` too.
+ *
+ * The function is written and proved in Rattle. Its contract is in crates/ffi/src/lib.rt and decides where a comment here is unclear. Nothing
+ * checks this declaration against it.
+ */
+#ifndef WETHRYNDA_H
+#define WETHRYNDA_H
+
+#include <stdbool.h>
+#include <stddef.h>
+#include <stdint.h>
+
+#ifdef __cplusplus
+extern "C" {
+#endif
+
+/* A list of so many words is long enough for the signers of every record. */
+#define WETHRYNDA_MOST_SIGNERS 256
+
+/*
+ * Checks the record in the bytes file[0] .. file[file_length - 1], any bytes of any number, and answers one number, which the functions below
+ * take apart. It makes every test itself and always answers: it allocates nothing, reads and writes no file, and keeps nothing from call to call.
+ *
+ * Granted: the record's signers, principal numbers from 0 to 4095, stand in signers[0] .. signers[count - 1], each once. Their ORDER IS FREE: do
+ * not rely on it. The words after them are as they were.
+ * Refused: no word of the list has changed. A list shorter than the number of signers is refusal 8.
+ *
+ * What the caller sees to, for nothing can test it:
+ * - Neither pointer is null, even where its length is 0. A pointer to any object will do there. `signers` is aligned as a uint16_t is.
+ * - The file has `file_length` bytes that may be read, and the list, which is lent for the call, `signers_length` words that may be read and
+ *   written. They do not overlap, and no other thread changes either until the call is over. (Calls may run at the same time on lists of their own.)
+ * - The thread has about 600 KB of stack left: a proof may be 512 steps deep, and the file's words are held on the stack. Main threads have
+ *   that; a thread that is made with a small stack may not, and then the process ends.
+ */
+uint64_t wethrynda_check_record(const uint8_t *file, size_t file_length, uint16_t *signers, size_t signers_length);
+
+/* Whether the record is granted; else it is refused. */
+static inline bool wethrynda_is_granted(uint64_t answer) { return answer >> 32 == 0; }
+
+/* Of a granted record: how many signers it has. */
+static inline uint32_t wethrynda_count(uint64_t answer) { return (uint32_t)(answer & 0xffffffffu); }
+
+/* Of a refused record: the refusal's number, 1 to 15, which says why (samples/README.md has the list). 0 if it is granted. */
+static inline uint32_t wethrynda_number(uint64_t answer) { return (uint32_t)(answer >> 32); }
+
+/* Of a refused record: the place, counted from 0: the entry, the statement or the step where the reason was found, or 0. */
+static inline uint32_t wethrynda_place(uint64_t answer) { return (uint32_t)(answer & 0xffffffffu); }
+
+#ifdef __cplusplus
+}
+#endif
+
+#endif
