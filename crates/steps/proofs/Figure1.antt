@@ -1,5 +1,5 @@
 -- The machine of document 01 closes on exactly the words of derivations, and its trace is their lines; its hypotheses form a set, and its
--- refusals are 9 to 15 (specs/Figure1.antt). Assumes nothing.
+-- refusals are 9 to 15, each where the words stop (specs/Figure1.antt). Assumes nothing.
 use Prim.Native.Nat.{ℕ}
 use native.Mathlib.Omega.{arith}
 use mathlib.Core.Path.{_≡_}
@@ -12,10 +12,11 @@ use Rattle.table.specs.Tests.{entries, tableTests}
 use Rattle.table.proofs.Entries.{length-entries-equal}
 use Rattle.table.proofs.Passed.{passed-is-good}
 use Rattle.steps.specs.Runs.{Decides}
-use Rattle.steps.specs.Figure1.{same, ClosedUsesAll, HypothesesAreASet, RefusedInRange, RunsAreDerivations, TraceIsDerivations, LinePerWord}
+use Rattle.steps.specs.Figure1.{same, ClosedUsesAll, HypothesesAreASet, RefusedInRange, RefusedWhere, RunsAreDerivations, TraceIsDerivations, LinePerWord}
 use Rattle.steps.proofs.Has as Table
 use Rattle.steps.proofs.Closed as Closed
 use Rattle.steps.proofs.Alike as Alike
+use Rattle.steps.proofs.Stops as Stops
 use Rattle.steps.proofs.Runs as Any
 use Rattle.steps.proofs.Trace as AnyTrace
 
@@ -40,6 +41,9 @@ hypotheses-are-a-set = Alike.hypotheses-are-a-set same mostDepth
 
 pub refused-in-range : RefusedInRange
 refused-in-range = Alike.refused-in-range same mostDepth
+
+pub refused-where : RefusedWhere
+refused-where = Stops.refused-where same mostDepth
 
 pub runs-are-derivations : RunsAreDerivations
 runs-are-derivations heads seconds passed =

@@ -7,6 +7,7 @@ pub mod Parts
 pub mod Closed
 pub mod Prefix
 pub mod Alike
+pub mod Stops
 pub mod Chain
 pub mod Begins
 pub mod Derived

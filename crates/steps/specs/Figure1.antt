@@ -5,6 +5,7 @@ use mathlib.Core.Bool.{Bool}
 use mathlib.Core.Path.{_≡_}
 use mathlib.Core.Logic.{_↔_}
 use mathlib.Core.List.{List, [], _∷_}
+use mathlib.Core.Option.{Option}
 use lib.ListN.{length}
 use lib.Dec.{eqb}
 use Rattle.logic.specs.Hypotheses.{_∈_}
@@ -20,6 +21,7 @@ use Rattle.steps.specs.Obligation.{Obligation}
 use Rattle.steps.specs.Step as Any
 use Rattle.steps.specs.Run as AnyRun
 use Rattle.steps.specs.Alike.{Alike}
+use Rattle.steps.specs.Stops as AnyStops
 use Rattle.steps.specs.Carried as AnyCarried
 use Rattle.steps.specs.Carried.{InTable}
 use Rattle.steps.specs.Trace as AnyTrace
@@ -37,6 +39,12 @@ walk es ws p os = AnyRun.walk same mostDepth es ws p os
 
 abbrev pub run : List Entry → List ℕ → List Obligation → Verdict
 run es ws os = AnyRun.run same mostDepth es ws os
+
+abbrev pub leave : List Entry → List ℕ → List Obligation → Option (List Obligation)
+leave es ws os = AnyStops.leave same mostDepth es ws os
+
+abbrev pub Stop : List Entry → List ℕ → List Obligation → ℕ → ℕ → Type 0
+Stop es ws os number p = AnyStops.Stop same mostDepth es ws os number p
 
 abbrev pub Carried : List Entry → List Obligation → List ℕ → Type 0
 Carried es os ws = AnyCarried.Carried Same mostDepth es os ws
@@ -60,6 +68,11 @@ abbrev pub RefusedInRange : Type 0
 RefusedInRange =
     (es : List Entry) (ws : List ℕ) (os : List Obligation) (number p : ℕ)
     → run es ws os ≡ Refused number p → (9 ≤ number) × (number ≤ 15) × (p ≤ length ws)
+
+-- What each refusal of a run says of the words, and where: 9 to 15 are exactly the stops.
+abbrev pub RefusedWhere : Type 0
+RefusedWhere =
+    (es : List Entry) (ws : List ℕ) (os : List Obligation) (number p : ℕ) → run es ws os ≡ Refused number p ↔ Stop es ws os number p
 
 -- In a table that passes 2, 4 and 5, for obligations whose numbers are below F (6 and 7), the machine closes on exactly the words of derivations.
 abbrev pub RunsAreDerivations : Type 0

@@ -7,6 +7,7 @@ pub mod Step
 pub mod Run
 pub mod Parts
 pub mod Alike
+pub mod Stops
 pub mod Words
 pub mod Carried
 pub mod Runs
