@@ -2,9 +2,9 @@
 use Prim.Native.Nat.{ℕ}
 use native.Mathlib.Omega.{arith}
 use mathlib.Core.Bool.{Bool, true, false}
-use mathlib.Core.Path.{_≡_, refl, ap}
+use mathlib.Core.Path.{_≡_, refl, ap, _∙_}
 use mathlib.Core.Logic.{_↔_, _⊎_, inl, inr, ⊎-elim}
-use mathlib.Core.List.{List, [], _∷_}
+use mathlib.Core.List.{List, [], _∷_, _++_}
 use Rattle.table.specs.declared.place.Place.{Place}
 use Rattle.table.specs.declared.place.Place.the-variants.{At, Nowhere}
 use Rattle.table.specs.declared.check.Tested.{Tested}
@@ -59,6 +59,27 @@ module _ (number : ℕ) (ts : List Test) where
 
   pub goes-on-at-0 : {asked : Bool} → asked ≡ false → firstRefusal (test number (at0 asked) ∷ ts) ≡ firstRefusal ts
   goes-on-at-0 e = goes-on (ap at0 e)
+
+-- ---- tests after tests
+
+-- A refusal stands, whatever follows a test.
+refused-through : (n : ℕ) (place : Place) {x y : Tested} {number p : ℕ} → (x ≡ Refused number p → y ≡ Refused number p)
+    → refusedAt n place x ≡ Refused number p → refusedAt n place y ≡ Refused number p
+refused-through n (At q) through e = e
+refused-through n Nowhere through e = through e
+
+-- What the first of two lists of tests refuses, both refuse;
+pub joined-refused : (ts us : List Test) {number p : ℕ} → firstRefusal ts ≡ Refused number p → firstRefusal (ts ++ us) ≡ Refused number p
+unfolding firstRefusal
+joined-refused [] us e = let z : _≡_ {A = ℕ} 0 1 = cc in absurd (omega arith)
+joined-refused (t ∷ ts) us e = refused-through (t .number) (t .place) (joined-refused ts us) e
+
+-- where it lets pass, the second decides.
+pub joined-passed : (ts us : List Test) → firstRefusal ts ≡ Passed → firstRefusal (ts ++ us) ≡ firstRefusal us
+joined-passed [] us e = refl
+joined-passed (t ∷ ts) us e =
+    let (none, rest) = passed-by-all (t ∷ ts) .0 e in
+    goes-on (t .number) (ts ++ us) none ∙ joined-passed ts us (passed-by-all ts .1 rest)
 
 -- With no test left the answer is passed.
 pub none-left : firstRefusal [] ≡ Passed

@@ -1,7 +1,7 @@
 -- "Every other file .. is refused by the first reason in the fixed order that applies, with its place" (demand 1): what "first" means, for
 -- any list of tests. Proved in proofs/Refusals.antt. Assumes nothing.
 use Prim.Native.Nat.{ℕ}
-use mathlib.Core.Bool.{Bool, true}
+use mathlib.Core.Bool.{Bool}
 use mathlib.Core.Path.{_≡_}
 use mathlib.Core.Logic.{_↔_, _⊎_}
 use mathlib.Core.List.{List, [], _∷_}

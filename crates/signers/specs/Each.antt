@@ -1,5 +1,5 @@
 -- What holds of the signers in whatever order they stand: "each once, in any order" (01). Proved in proofs/. Assumes nothing.
-use Prim.Native.Nat.{ℕ, _≤_}
+use Prim.Native.Nat.{ℕ, _≤_, _<_}
 use mathlib.Core.Path.{_≡_}
 use mathlib.Core.Logic.{_↔_}
 use mathlib.Core.List.{List, [], _∷_}
@@ -12,10 +12,10 @@ use Rattle.table.specs.declared.entry.Formula.{Formula}
 use Rattle.table.specs.Entry.{principal}
 use Rattle.table.specs.Laws.{Ordered}
 use Rattle.table.specs.Spelled.{spellAll}
-use Rattle.table.specs.Tests.{entryAt}
-use Rattle.signers.specs.Signers.{signers}
+use Rattle.table.specs.Tests.{entries, entryAt}
+use Rattle.signers.specs.Signers.{mostPrincipals, signers}
 
--- K is "the principal of a statement of the form K says A".
+-- K is the principal of a statement "of the form K says A".
 pub record Signs (es : List Entry) (statements : List ℕ) (K : ℕ) : Type 0 where
   pub statement : ℕ
   pub stands : statement ∈ statements
@@ -42,6 +42,10 @@ OneCount = (es : List Entry) (statements ks : List ℕ) → AreSigners es statem
 -- There are no more signers than statements.
 abbrev pub NoMoreThanStatements : Type 0
 NoMoreThanStatements = (es : List Entry) (statements : List ℕ) → length (signers es statements) ≤ length statements
+
+-- A signer is a principal's number.
+abbrev pub SignersArePrincipals : Type 0
+SignersArePrincipals = (heads seconds statements : List ℕ) (K : ℕ) → Signs (entries heads seconds) statements K → K < mostPrincipals
 
 -- Over propositions: K signs exactly when a statement spells K says A, for some A.
 pub record SaysSome (es : List Entry) (statements : List ℕ) (K : ℕ) : Type 0 where

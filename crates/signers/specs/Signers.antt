@@ -7,6 +7,10 @@ use Rattle.table.specs.Choice.{pick}
 use Rattle.table.specs.Tests.{entryAt}
 use Rattle.steps.specs.Obligation.{holds}
 
+-- "Atoms and principals are numbered 0 to 4,095."
+abbrev pub mostPrincipals : ℕ
+mostPrincipals = 4096
+
 -- the signers found, and the principal of one statement more; "a statement that isn't a says-formula is a standing order of the mill"
 abbrev pub joined : List ℕ → Entry → List ℕ
 joined ks (Says k f) = pick (holds ks (k .0)) ks (ks ++ (k .0 ∷ []))
