@@ -18,7 +18,7 @@ use Rattle.record.specs.Answer.{tests, stepVerdict, afterTests, afterSte
 not-granted : {number p count : ℕ} → Refused number p ≡ Granted count → ⊥
 not-granted e = let z : _≡_ {A = ℕ} 0 1 = cc in omega arith
 
-pub not-passed : {number p : ℕ} → Test.Refused number p ≡ Test.Passed → ⊥
+not-passed : {number p : ℕ} → Test.Refused number p ≡ Test.Passed → ⊥
 not-passed e = let z : _≡_ {A = ℕ} 0 1 = cc in omega arith
 
 not-closed : {number p q : ℕ} → Steps.Refused number p ≡ Steps.Closed q → ⊥

@@ -7,7 +7,6 @@ use mathlib.Core.List.{List, [], _∷_, append-nil, List·Memᴰ·eq-of-singleto
 use lib.ListN.{length}
 use Rattle.logic.specs.Hypotheses.{_∈_}
 use Rattle.table.specs.declared.check.Tested.the-variants.{Passed}
-use Rattle.table.specs.Limits.{mostFormulas}
 use Rattle.table.specs.Number.{number}
 use Rattle.table.specs.Tests.{tableTests}
 use Rattle.table.proofs.Answers.{passed}
@@ -21,8 +20,7 @@ use Rattle.steps.proofs.Figure1.{runs-are-derivations}
 use Rattle.record.specs.Layout.{goal, heads, seconds, statements, steps, table}
 use Rattle.record.specs.Answer.{stepVerdict}
 use Rattle.record.specs.Proof.{Keeps, IsProof}
-use Rattle.record.proofs.Lengths.{length-heads, length-seconds, length-table}
-use Rattle.file.proofs.Asked.{at-most, equal, both-are}
+use Rattle.record.proofs.Lengths.{length-table, sized-table}
 use Rattle.record.proofs.Keeps.{none-repeated}
 
 module _ (file : List ℕ) where
@@ -41,14 +39,7 @@ module _ (file : List ℕ) where
     -- The table passes 2, 4 and 5,
     pub table-passes : tableTests (heads file) (seconds file) ≡ Passed
     table-passes =
-        let fits = keeps .sized in
-        let hs = length-heads file fits in
-        let ss = length-seconds file fits in
-        let some = fits .in-range .some-formulas in
-        let few = fits .in-range .few-formulas in
-        let alike = equal (length (heads file)) (length (seconds file)) in
-        let range = both-are (at-most 1 (length (heads file))) (at-most (length (heads file)) mostFormulas) in
-        passed (heads file) (seconds file) (both-are alike range .1 (hs ∙ sym ss, (omega arith, omega arith)))
+        passed (heads file) (seconds file) (sized-table file (keeps .sized))
         (no-fault-ordered (table file) .1 (keeps .ordered))
         (none-repeated (heads file) (seconds file) .1 (keeps .none-repeated))
 

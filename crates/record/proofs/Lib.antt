@@ -15,3 +15,4 @@ pub mod ArrayTests
 pub mod StepTests
 pub mod Contents
 pub mod Whole
+pub mod Cut

@@ -3,7 +3,7 @@ use Prim.Native.Nat.{ℕ, _≤_, _<_}
 use mathlib.Core.Bool.{not}
 use mathlib.Core.Path.{_≡_, sym}
 use mathlib.Core.Logic.{_↔_, _⊎_, inl, inr, ⊎-elim}
-use mathlib.Core.List.{List}
+use mathlib.Core.List.{List, [], _∷_}
 use lib.ListN.{length, getD}
 use lib.Dec.{leb}
 use Rattle.table.specs.declared.place.Place.the-variants.{At}
@@ -11,13 +11,22 @@ use Rattle.table.specs.First.{first, found, IsFirst}
 use Rattle.table.specs.Tests.{entryAt, right, same, wrongEntry, repeatedEntry}
 use Rattle.table.proofs.First.{first-place}
 use Rattle.steps.specs.declared.verdict.Verdict.the-variants as Steps
-use Rattle.record.specs.Layout.{formulas, goal, heads, seconds, statements, size, table, signers}
+use Rattle.steps.specs.Obligation.{due}
+use Rattle.steps.specs.Figure1.{Stop}
+use Rattle.steps.proofs.Figure1.{refused-where}
+use Rattle.record.specs.Layout.{formulas, goal, heads, seconds, statements, steps, size, table, signers}
 use Rattle.record.specs.Answer.{tooShort, sizeOutside, otherLength, goalOutside, statementOutside, listShort, tests, stepVerdict}
 use Rattle.record.specs.Proof.{InRange}
-use Rattle.record.specs.Reasons.{Reason, fewer-than-8-bytes, size-outside, other-length, wrong-entry, repeated-entry, goal-outside, statement-outside, list-short, step-refused}
+use Rattle.record.specs.Reasons.{Reason, fewer-than-8-bytes, size-outside, other-length, wrong-entry, repeated-entry, goal-outside, statement-outside, list-short, stops}
 use Rattle.file.proofs.Asked.{less, at-most, equal, other, at0-at}
 use Rattle.record.proofs.Keeps.{in-range}
 use Rattle.file.proofs.InOrder.{Some}
+
+-- 9 to 15: the machine refuses where the walk stops.
+pub walked :
+    (file : List ℕ) (number p : ℕ)
+    → stepVerdict file ≡ Steps.Refused number p ↔ Stop (table file) (steps file) (due (statements file) (goal file) ∷ []) number p
+walked file number p = refused-where (table file) (steps file) (due (statements file) (goal file) ∷ []) number p
 
 module _ (file : List ℕ) (room number p : ℕ) where
   -- ---- each test by what its reason says
@@ -60,7 +69,7 @@ module _ (file : List ℕ) (room number p : ℕ) where
   from-reason (goal-outside n z l) = inl (inr (inr (inr (inr (inr (inl (sym n, six .1 (z, l))))))))
   from-reason (statement-outside n is) = inl (inr (inr (inr (inr (inr (inr (inl (sym n, seven .1 is))))))))
   from-reason (list-short n z l) = inl (inr (inr (inr (inr (inr (inr (inr (inl (sym n, eight .1 (z, l))))))))))
-  from-reason (step-refused e) = inr e
+  from-reason (stops s) = inr (walked file number p .1 s)
 
   to-reason : Some (tests file room) number p → Reason file room number p
   to-reason (inl (n, at)) = let (z, l) = one .0 at in fewer-than-8-bytes (sym n) z l
@@ -74,4 +83,4 @@ module _ (file : List ℕ) (room number p : ℕ) where
   to-reason (inr (inr (inr (inr (inr (inr (inr (inr none)))))))) = absurd none
 
   pub reasons : Reason file room number p ↔ Some (tests file room) number p ⊎ (stepVerdict file ≡ Steps.Refused number p)
-  reasons = (from-reason, ⊎-elim to-reason step-refused)
+  reasons = (from-reason, ⊎-elim to-reason (λ e. stops (walked file number p .0 e)))

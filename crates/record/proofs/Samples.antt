@@ -14,8 +14,8 @@ use Rattle.record.specs.Samples.{Samples, Order}
 
 pub samples : Samples
 unfolding recordAnswer fileWords fileOf firstRefusal wrongEntry repeatedEntry first joinedAll signers run walk step opens holds entries entry
-samples = refl
+samples = (refl, refl)
 
 pub order : Order
 unfolding recordAnswer fileWords fileOf firstRefusal wrongEntry repeatedEntry first joinedAll signers run walk step opens holds entries entry
-order = refl
+order = (refl, refl)

@@ -9,12 +9,13 @@ use Rattle.record.specs.declared.verdict.Verdict.the-variants.{Granted, 
 use Rattle.record.specs.Layout.{formulas, statementCount, stepCount, statements, table}
 use Rattle.record.specs.Answer.{recordAnswer}
 use Rattle.record.specs.Proof.{InRange}
-use Rattle.record.specs.Reasons.{Reason, fewer-than-8-bytes, size-outside, other-length, wrong-entry, repeated-entry, goal-outside, statement-outside, list-short, step-refused, FirstReason}
+use Rattle.record.specs.Reasons.{Reason, fewer-than-8-bytes, size-outside, other-length, wrong-entry, repeated-entry, goal-outside, statement-outside, list-short, stops, FirstReason}
 use Rattle.record.specs.Promises.{Releases, Small, AnswersSmall}
 use Rattle.file.proofs.Asked.{settled}
 use Rattle.record.proofs.Lengths.{part-at-most, table-at-most}
 use Rattle.record.proofs.Keeps.{in-range}
 use Rattle.record.proofs.Granted.{granted-exactly}
+use Rattle.record.proofs.Reasons.{walked}
 use Rattle.record.proofs.Refused.{step-number, refused-exactly}
 
 module _ (file : List ℕ) (room : ℕ) where
@@ -49,8 +50,8 @@ module _ (file : List ℕ) (room : ℕ) where
       let few = range (omega arith) .few-statements in
       (omega arith, omega arith, omega (arith, part-at-most file (4 + 2 * formulas file) (statementCount file)))
   reason-small number p range (list-short n z l) = (omega arith, omega arith, omega arith)
-  reason-small number p range (step-refused e) =
-      let (above, below, within) = step-number file number p e in
+  reason-small number p range (stops s) =
+      let (above, below, within) = step-number file number p (walked file number p .1 s) in
       let few = range (omega arith) .few-steps in
       (omega arith, below, omega (arith, part-at-most file (4 + 2 * formulas file + statementCount file) (stepCount file)))
 

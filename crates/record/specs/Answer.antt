@@ -41,9 +41,13 @@ otherLength file = at0 (not (eqb (length file) (size file)))
 abbrev pub goalOutside : List ℕ → Place
 goalOutside file = at0 (leb (formulas file) (goal file))
 
+-- the first position of a number of F or more
+abbrev pub outside : ℕ → List ℕ → Place
+outside F numbers = first (λ i. leb F (getD numbers i 0)) (length numbers)
+
 -- "7. A statement's number is F or more (place: the first such position)."
 abbrev pub statementOutside : List ℕ → Place
-statementOutside file = first (λ i. leb (formulas file) (getD (statements file) i 0)) (length (statements file))
+statementOutside file = outside (formulas file) (statements file)
 
 -- "8. The lent list is shorter than the number of signers (place 0)."
 abbrev pub listShort : List ℕ → ℕ → Place

@@ -4,26 +4,24 @@ use Prim.Native.Nat.{ℕ, _+_, _*_}
 use mathlib.Core.Bool.{true}
 use mathlib.Core.Path.{_≡_}
 use mathlib.Core.List.{List, [], _∷_}
-use lib.ListN.{length, getD}
+use lib.ListN.{length}
 use lib.Dec.{ltb, leb}
-use Rattle.table.specs.declared.place.Place.{Place}
 use Rattle.table.specs.declared.check.Tested.{Tested}
 use Rattle.table.specs.declared.check.Tested.the-variants as T
 use Rattle.table.specs.Limits.{mostFormulas, mostStatements, mostSteps}
-use Rattle.table.specs.First.{first}
 use Rattle.table.specs.Tests.{entries, sized, wrongEntry, repeatedEntry}
 use Rattle.steps.specs.declared.verdict.Verdict as Step
 use Rattle.steps.specs.declared.verdict.Verdict.the-variants as Steps
 use Rattle.steps.specs.Obligation.{due}
 use Rattle.steps.specs.Figure1.{run}
 use Rattle.lent.specs.Written.{written}
-use Rattle.file.specs.Refusals.{Test, test, at0, firstRefusal}
+use Rattle.file.specs.Refusals.{test, at0, firstRefusal}
 use Rattle.signers.specs.Signers.{signers}
 use Rattle.record.specs.declared.layout.Sizes.{Sizes}
 use Rattle.record.specs.declared.verdict.Verdict.{Verdict}
 use Rattle.record.specs.declared.verdict.Verdict.the-variants.{Granted, Refused}
 use Rattle.record.specs.Layout.{formulas, statementCount, stepCount}
-use Rattle.record.specs.Answer.{tooShort, sizeOutside, otherLength, afterTests}
+use Rattle.record.specs.Answer.{tooShort, sizeOutside, otherLength, outside, afterTests}
 
 -- the sizes of a file
 abbrev pub sizesOf : List ℕ → Sizes
@@ -36,10 +34,6 @@ mostWords = 4 + 2 * mostFormulas + mostStatements + mostSteps
 -- 1 to 3
 abbrev pub layoutTests : List ℕ → Tested
 layoutTests file = firstRefusal (test 1 (tooShort file) ∷ test 2 (sizeOutside file) ∷ test 3 (otherLength file) ∷ [])
-
--- the first number of F or more
-abbrev pub outside : ℕ → List ℕ → Place
-outside F numbers = first (λ i. leb F (getD numbers i 0)) (length numbers)
 
 -- 4 to 8, for a table of F entries
 abbrev pub arrayTests : List ℕ → List ℕ → List ℕ → ℕ → ℕ → Tested

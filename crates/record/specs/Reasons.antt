@@ -2,14 +2,14 @@
 use Prim.Native.Nat.{ℕ, _≤_, _<_}
 use mathlib.Core.Bool.{not}
 use mathlib.Core.Path.{_≡_}
-use mathlib.Core.List.{List}
+use mathlib.Core.List.{List, [], _∷_}
 use lib.ListN.{length, getD}
 use lib.Dec.{leb}
 use Rattle.table.specs.First.{first, found, IsFirst}
 use Rattle.table.specs.Tests.{entryAt, right, same}
-use Rattle.steps.specs.declared.verdict.Verdict.the-variants as Steps
-use Rattle.record.specs.Layout.{formulas, goal, heads, seconds, statements, size, table, signers}
-use Rattle.record.specs.Answer.{stepVerdict}
+use Rattle.steps.specs.Obligation.{due}
+use Rattle.steps.specs.Figure1.{Stop}
+use Rattle.record.specs.Layout.{formulas, goal, heads, seconds, statements, steps, size, table, signers}
 use Rattle.record.specs.Proof.{InRange}
 
 -- A reason to refuse a file, where a list of `room` words is lent: its number, its place p, and what it says. `IsFirst fault n p`: p is
@@ -23,9 +23,10 @@ pub data Reason (file : List ℕ) (room number p : ℕ) : Type 0 where
   goal-outside : number ≡ 6 → p ≡ 0 → formulas file ≤ goal file → Reason file room number p
   statement-outside : number ≡ 7 → IsFirst (λ i. leb (formulas file) (getD (statements file) i 0)) (length (statements file)) p → Reason file room number p
   list-short : number ≡ 8 → p ≡ 0 → room < length (signers file) → Reason file room number p
-  step-refused : stepVerdict file ≡ Steps.Refused number p → Reason file room number p
+  -- 9 to 15, which "run in this order at each step, steps in file order": the walk stops at p (steps/specs/Stops.antt has what each says)
+  stops : Stop (table file) (steps file) (due (statements file) (goal file) ∷ []) number p → Reason file room number p
 
--- The reason has the lowest number of those that apply.
+-- The reason has the lowest number of those that apply. (The walk stops at one place for one reason, so of 9 to 15 at most one applies.)
 pub record FirstReason (file : List ℕ) (room number p : ℕ) : Type 0 where
   pub applies : Reason file room number p
   pub none-before : (n q : ℕ) → n < number → ¬ Reason file room n q

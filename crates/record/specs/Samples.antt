@@ -1,5 +1,5 @@
--- The samples of document 01 that are marked m, A to H, as whole files: one table, proved in proofs/Samples.antt by computation. A lends a list
--- of 256 words, as the program does. Assumes nothing.
+-- The samples of document 01 that are marked m, A to H, as whole files: one table, proved in proofs/Samples.antt by computation. Each lends a
+-- list of 256 words, as the program does. Assumes nothing.
 use Prim.Native.Nat.{ℕ}
 use mathlib.Core.Path.{_≡_}
 use mathlib.Core.List.{List, [], _∷_, _++_, map}
@@ -7,16 +7,26 @@ use lib.ListN.{length}
 use Rattle.file.specs.Words.{fileOf}
 use Rattle.record.specs.declared.verdict.Verdict.{Verdict}
 use Rattle.record.specs.declared.verdict.Verdict.the-variants.{Granted, Refused}
+use Rattle.record.specs.Layout.{signers}
 use Rattle.record.specs.Answer.{recordAnswer}
 
--- a row: the words of the file, the length of the lent list, and the answer
+-- a row: the words of the file, the length of the lent list, the answer, and whom a grant names
 pub record Sample : Type 0 where
   pub words : List ℕ
   pub room : ℕ
   pub answer : Verdict
+  pub names : List ℕ
 
-abbrev pub row : List ℕ → ℕ → Verdict → Sample
-row words room answer = record { words = words; room = room; answer = answer }
+abbrev pub grants : List ℕ → ℕ → List ℕ → Sample
+grants words room names = record { words = words; room = room; answer = Granted (length names); names = names }
+
+abbrev pub refuses : List ℕ → ℕ → ℕ → ℕ → Sample
+refuses words room number place = record { words = words; room = room; answer = Refused number place; names = [] }
+
+-- the signers where there is a grant
+abbrev pub granted : Verdict → List ℕ → List ℕ
+granted (Granted count) names = names
+granted (Refused number place) names = []
 
 -- "Table T: 0 atom 0; 1 principal 7 says it; 2 principal 8 says it: heads 0, 20487, 20488, seconds 0, 0, 0."
 abbrev pub overT : List ℕ → ℕ → List ℕ → List ℕ
@@ -29,39 +39,44 @@ overT statements goal steps =
 -- | | statements | goal | steps | answer |. Record A is as 01 gives it, "entries 0 and 1 only".
 abbrev pub rows : List Sample
 rows =
-    row (2 ∷ 1 ∷ 4 ∷ 1 ∷ 0 ∷ 20487 ∷ 0 ∷ 0 ∷ 1 ∷ 40960 ∷ 45057 ∷ 4096 ∷ 0 ∷ []) 256 (Granted 1)
-    ∷ row (overT (0 ∷ []) 1 (40960 ∷ 4096 ∷ 0 ∷ [])) 256 (Granted 0)
-    ∷ row (overT (1 ∷ []) 0 (45057 ∷ [])) 256 (Refused 14 0)
-    ∷ row (overT (2 ∷ []) 1 (40960 ∷ 45058 ∷ [])) 256 (Refused 14 1)
-    ∷ row (overT (0 ∷ []) 1 (0 ∷ [])) 256 (Refused 13 0)
-    ∷ row (overT [] 0 (0 ∷ [])) 256 (Refused 12 0)
-    ∷ row (overT (0 ∷ []) 1 (40960 ∷ 4096 ∷ [])) 256 (Refused 9 2)
-    ∷ row (overT (0 ∷ []) 1 (40960 ∷ 4096 ∷ 0 ∷ 0 ∷ [])) 256 (Refused 15 3)
+    grants (2 ∷ 1 ∷ 4 ∷ 1 ∷ 0 ∷ 20487 ∷ 0 ∷ 0 ∷ 1 ∷ 40960 ∷ 45057 ∷ 4096 ∷ 0 ∷ []) 256 (7 ∷ [])
+    ∷ grants (overT (0 ∷ []) 1 (40960 ∷ 4096 ∷ 0 ∷ [])) 256 []
+    ∷ refuses (overT (1 ∷ []) 0 (45057 ∷ [])) 256 14 0
+    ∷ refuses (overT (2 ∷ []) 1 (40960 ∷ 45058 ∷ [])) 256 14 1
+    ∷ refuses (overT (0 ∷ []) 1 (0 ∷ [])) 256 13 0
+    ∷ refuses (overT [] 0 (0 ∷ [])) 256 12 0
+    ∷ refuses (overT (0 ∷ []) 1 (40960 ∷ 4096 ∷ [])) 256 9 2
+    ∷ refuses (overT (0 ∷ []) 1 (40960 ∷ 4096 ∷ 0 ∷ 0 ∷ [])) 256 15 3
     ∷ []
 
--- each row has its answer
+-- each row has its answer, and a grant its signers
+abbrev pub answerTo : Sample → Verdict
+answerTo r = recordAnswer (fileOf (r .words)) (r .room)
+
 abbrev pub Hold : List Sample → Type 0
-Hold samples = map (λ r. recordAnswer (fileOf (r .words)) (r .room)) samples ≡ map (λ r. r .answer) samples
+Hold samples =
+    (map answerTo samples ≡ map (λ r. r .answer) samples)
+    × (map (λ r. granted (answerTo r) (signers (fileOf (r .words)))) samples ≡ map (λ r. r .names) samples)
 
 abbrev pub Samples : Type 0
 Samples = Hold rows
 
 -- "Refused, in checking order": each of 1 to 8, and where two apply the first counts. In order: no byte at all; F is 0, and the length is wrong; a
 -- word too many; N and M, as records; a repeated entry at 1 and a wrong one at 2; the goal and a statement of F or more; a statement of F or more at
--- 1; A with no room for its signer, and so with a wrong step; and B with no room, which it needs none of.
+-- 1; A's statement, goal and steps with no room for the signer, and the same with a wrong step; and B with no room, which it needs none of.
 abbrev pub order : List Sample
 order =
-    row [] 256 (Refused 1 0)
-    ∷ row (0 ∷ 0 ∷ 1 ∷ 0 ∷ 0 ∷ []) 256 (Refused 2 0)
-    ∷ row (1 ∷ 0 ∷ 1 ∷ 0 ∷ 0 ∷ 0 ∷ 0 ∷ 0 ∷ []) 256 (Refused 3 0)
-    ∷ row (1 ∷ 0 ∷ 1 ∷ 0 ∷ 20487 ∷ 0 ∷ 0 ∷ []) 256 (Refused 4 0)
-    ∷ row (2 ∷ 0 ∷ 1 ∷ 0 ∷ 0 ∷ 0 ∷ 0 ∷ 0 ∷ 0 ∷ []) 256 (Refused 5 1)
-    ∷ row (3 ∷ 0 ∷ 1 ∷ 0 ∷ 0 ∷ 0 ∷ 20487 ∷ 0 ∷ 0 ∷ 2 ∷ 0 ∷ []) 256 (Refused 4 2)
-    ∷ row (overT (3 ∷ []) 3 (0 ∷ [])) 256 (Refused 6 0)
-    ∷ row (overT (0 ∷ 3 ∷ []) 0 (0 ∷ [])) 256 (Refused 7 1)
-    ∷ row (overT (1 ∷ []) 1 (40960 ∷ 45057 ∷ 4096 ∷ 0 ∷ [])) 0 (Refused 8 0)
-    ∷ row (overT (1 ∷ []) 1 (49152 ∷ [])) 0 (Refused 8 0)
-    ∷ row (overT (0 ∷ []) 1 (40960 ∷ 4096 ∷ 0 ∷ [])) 0 (Granted 0)
+    refuses [] 256 1 0
+    ∷ refuses (0 ∷ 0 ∷ 1 ∷ 0 ∷ []) 256 2 0
+    ∷ refuses (1 ∷ 0 ∷ 1 ∷ 0 ∷ 0 ∷ 0 ∷ 0 ∷ 0 ∷ []) 256 3 0
+    ∷ refuses (1 ∷ 0 ∷ 1 ∷ 0 ∷ 20487 ∷ 0 ∷ 0 ∷ []) 256 4 0
+    ∷ refuses (2 ∷ 0 ∷ 1 ∷ 0 ∷ 0 ∷ 0 ∷ 0 ∷ 0 ∷ 0 ∷ []) 256 5 1
+    ∷ refuses (3 ∷ 0 ∷ 1 ∷ 0 ∷ 0 ∷ 0 ∷ 20487 ∷ 0 ∷ 0 ∷ 2 ∷ 0 ∷ []) 256 4 2
+    ∷ refuses (overT (3 ∷ []) 3 (0 ∷ [])) 256 6 0
+    ∷ refuses (overT (0 ∷ 3 ∷ []) 0 (0 ∷ [])) 256 7 1
+    ∷ refuses (overT (1 ∷ []) 1 (40960 ∷ 45057 ∷ 4096 ∷ 0 ∷ [])) 0 8 0
+    ∷ refuses (overT (1 ∷ []) 1 (49152 ∷ [])) 0 8 0
+    ∷ grants (overT (0 ∷ []) 1 (40960 ∷ 4096 ∷ 0 ∷ [])) 0 []
     ∷ []
 
 abbrev pub Order : Type 0

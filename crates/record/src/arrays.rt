@@ -1,7 +1,8 @@
 // Tests 4 to 8: the table, the goal's and the statements' numbers, and the room for the signers.
 ghost use mathlib.Core.Path.{_≡_};
 ghost use lib.Dec.{leb};
-ghost use Rattle.record.specs.Parts.{outside, arrayTests, SizedTable};
+ghost use Rattle.record.specs.Answer.{outside};
+ghost use Rattle.record.specs.Parts.{arrayTests, SizedTable};
 use signers::collect::signer_count;
 use table::check::Tested;
 use table::check::check_table;

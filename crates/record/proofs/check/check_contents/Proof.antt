@@ -1,7 +1,6 @@
 -- `record::check::check_contents` meets its contract: the list is written only after every test has passed. Assumes nothing.
-use mathlib.Core.Path.{refl, sym, ap, _∙_}
+use mathlib.Core.Path.{refl}
 use borrow.Author.Needs.{needs}
-use Rattle.lent.proofs.Written.{written-length}
 use Rattle.record.proofs.Contents.{refused-to-8, refused-to-15, granted-by-all}
 use Rattle.record.proofs.check.check_contents.Statement.{statement}
 use Rattle.record.proofs.check.check_contents.Tie as tie

@@ -1,6 +1,5 @@
 -- `record::check::check_record` meets its contract: 1 to 3, and then the rest. Assumes nothing.
 use mathlib.Core.Path.{refl}
-use native.Mathlib.Omega.{arith}
 use borrow.Author.Needs.{needs}
 use Rattle.record.proofs.Whole.{layout-refused, layout-passed}
 use Rattle.record.proofs.check.check_record.Statement.{statement}

@@ -3,7 +3,8 @@ use Prim.Native.Nat.{_+_, _≤_}
 use native.Mathlib.Omega.{arith}
 use lib.ListN.{length}
 use borrow.Author.Needs.{needs}
-use Rattle.record.proofs.Whole.{end-within, heads-cut, seconds-cut, statements-cut, steps-cut, table-sized, whole}
+use Rattle.record.proofs.Cut.{end-within, heads-cut, seconds-cut, statements-cut, steps-cut, table-sized}
+use Rattle.record.proofs.Whole.{whole}
 use Rattle.record.proofs.check.check_sized.Statement.{statement}
 use Rattle.record.proofs.check.check_sized.Tie as tie
 
@@ -39,7 +40,7 @@ check-contents-requires c κs =
     let room = start .pre .1 in
     let read = w .read-words .ensures in
     let is = z .read-sizes .ensures in
-    table-sized file sized old room read is (heads-cut file sized old room read is) (seconds-cut file sized old room read is)
+    table-sized file sized (heads-cut file sized old room read is) (seconds-cut file sized old room read is)
 
 returns : tie.Need-returns
 returns c =
