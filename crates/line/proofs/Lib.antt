@@ -2,4 +2,5 @@
 pub mod Listed
 pub mod Lines
 pub mod LineFits
+pub mod Printed
 pub mod Samples

@@ -1,18 +1,14 @@
-// Checks the files that its arguments name, lending a list of 256 words for each, and prints for each the name, a blank and the line of 01.
+// Checks the files that its arguments name, and prints for each the name, a blank and the line of 01, as `check_record` prints it.
 use input::read_input;
 use libc::STDOUT_FILENO;
-use line::record_line::MOST_LINE;
-use line::record_line::write_record_line;
-use record::check::check_record;
-use record::limits::MOST_BYTES;
-use table::limits::MOST_STATEMENTS;
+use line::answer_line::answer_line;
+use line::answer_line::line_buffer;
+use record::limits::file_buffer;
 
 // Prints the line of a file that was read, after its name.
 fn print_line(name: &[u8], file: &[u8]) {
-    let mut signers = [0u16; MOST_STATEMENTS];
-    let verdict = check_record(file, &mut signers);
-    let mut line = [0u8; MOST_LINE];
-    let length = write_record_line(verdict, &signers, &mut line);
+    let mut line = line_buffer();
+    let length = answer_line(file, &mut line);
     io::write_all(STDOUT_FILENO, name);
     io::write_all(STDOUT_FILENO, b" ");
     io::write_all(STDOUT_FILENO, &line[..length]);
@@ -20,8 +16,7 @@ fn print_line(name: &[u8], file: &[u8]) {
 
 // Reads a file that is open, and prints its line. Where it can't be read, standard error says so.
 fn check_open(name: &[u8], fd: i32) {
-    // One byte more than the longest record has, so that a longer file is seen to be longer.
-    let mut file = [0u8; MOST_BYTES + 1];
+    let mut file = file_buffer();
     let input = read_input(fd, &mut file);
     if !input.ok {
         os::fail(name);

@@ -1,0 +1,27 @@
+// What the program prints for a file: all that it does but reading and writing.
+ghost use Prim.Native.Nat.{_≤_};
+ghost use mathlib.Core.Path.{_≡_};
+ghost use lib.ListN.{length, take};
+ghost use Rattle.line.specs.Printed.{Printed};
+ghost use Rattle.line.specs.RecordLine.{mostLine};
+use crate::record_line::MOST_LINE;
+use crate::record_line::write_record_line;
+use record::check::check_record;
+use table::limits::MOST_STATEMENTS;
+
+// Bytes for a line: every line has room (`WholeLine`).
+pub fn line_buffer() -> [u8; MOST_LINE]
+    ensures { λ r. ⌜ mostLine ≡ length r ⌝ }
+{
+    [0; MOST_LINE]
+}
+
+// Checks a record, lending a list of 256 words, and writes the line of the answer as `write_record_line` does.
+pub fn answer_line(file: &[u8], line: &mut [u8]) -> usize
+    ensures { λ r. ⌜ Printed (now (file .entry)) (now (line .entry)) r (now (line .exit)) ⌝ }
+    ensures { λ r. ⌜ (r ≤ length (now (line .exit))) × (r ≡ length (take r (now (line .exit)))) ⌝ }
+{
+    let mut signers = [0u16; MOST_STATEMENTS];
+    let verdict = check_record(file, &mut signers);
+    write_record_line(verdict, &signers, line)
+}
