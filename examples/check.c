@@ -1,6 +1,6 @@
 /*
- * Checks the record in the file that is named, and says what the check answers. The exit status is 0 for granted, 1 for refused, and 2 where
- * there is no verdict, because the file cannot be read. At the top of the repository:
+ * Checks the record in the file that is named, and prints the line of document 01. The exit status is 0 for granted, 1 for refused, and 2 where
+ * there is no verdict, because the file cannot be read or the line not written. At the top of the repository:
  *
  *     rt staticlib ffi
  *     cc -Iinclude examples/check.c target/staticlib/libffi.a -o target/check
@@ -56,13 +56,13 @@ int main(int argc, char **argv) {
     uint64_t answer = wethrynda_check_record(file, length, signers, WETHRYNDA_MOST_SIGNERS);
     free(file);
     if (!wethrynda_is_granted(answer)) {
-        printf("refusal %u at place %u\n", (unsigned)wethrynda_number(answer), (unsigned)wethrynda_place(answer));
-        return 1;
+        printf("refused %u place %u\n", (unsigned)wethrynda_number(answer), (unsigned)wethrynda_place(answer));
+        return fflush(stdout) == 0 ? 1 : 2;
     }
-    printf("granted; signers:");
+    printf("granted %u", (unsigned)wethrynda_count(answer));
     for (uint32_t i = 0; i < wethrynda_count(answer); i++) {
         printf(" %u", (unsigned)signers[i]);
     }
     printf("\n");
-    return 0;
+    return fflush(stdout) == 0 ? 0 : 2;
 }

@@ -53,6 +53,17 @@ words 2 1 4 1 0 20487 0 0 1 40960 45057 4096 0 >"$room/A"
 words 3 1 1 0 0 20487 20488 0 0 0 1 45057 >"$room/C"
 { words 4096 256 16384 0 && zeros 49664; } >"$room/longest"
 : >"$room/empty"
+# A's proof with 256 papers, of the principals 3840 to 4095: as many signers as can be, and the longest line.
+names=$(i=3840 && while [ $i -le 4095 ]; do echo $i && i=$((i + 1)); done)
+{
+    words 257 256 4 1 0
+    for name in $names; do words $((20480 + name)); done
+    zeros 514
+    for name in $names; do words $((name - 3839)); done
+    words 40960 45057 4096 0
+} >"$room/signed"
+# shellcheck disable=SC2086,SC2116 # the numbers on one line
+all="granted 256 $(echo $names)"
 head=$(words 2 1 4 | wc -c)
 for name in A longest; do
     { cat "$room/$name" && zeros 1; } >"$room/$name+1"
@@ -70,6 +81,7 @@ check 'program: A and 100,000 bytes' 0 'refused 3 place 0' '' "$program" <"$room
 check 'program: the longest record' 0 'refused 5 place 1' '' "$program" <"$room/longest"
 check 'program: the longest record and a byte' 0 'refused 3 place 0' '' "$program" <"$room/longest+1"
 check 'program: the longest record and 100,000 bytes' 0 'refused 3 place 0' '' "$program" <"$room/longest+100000"
+check 'program: 256 signers' 0 "$all" '' "$program" <"$room/signed"
 # in pieces, cut within the sizes and within a word
 {
     dd if="$room/A" bs=1 count="$head" 2>/dev/null
@@ -83,7 +95,7 @@ check 'program: closed input' 0 '' "check_record: standard input can't be read" 
 check 'program: a folder' 0 '' "check_record: standard input can't be read" "$program" <"$room"
 if [ -c /dev/full ]; then
     # shellcheck disable=SC2016 # for the inner shell
-    check 'program: full output' 0 '' "check_record: standard output can't be written" sh -c '"$1" >/dev/full' sh "$program" <"$room/A"
+    check 'program: full output' 0 '' "check_record: the line can't be written" sh -c '"$1" >/dev/full' sh "$program" <"$room/A"
 fi
 
 check 'script: A' 0 'granted 1 7' '' "$script" record "$room/A"
@@ -91,6 +103,7 @@ check 'script: C' 1 'refused 14 place 0' 'affirmation by that same principal' "$
 check 'script: empty' 1 'refused 1 place 0' 'fewer than 8 bytes' "$script" record "$room/empty"
 check 'script: A and a byte' 1 'refused 3 place 0' 'longer or shorter' "$script" record "$room/A+1"
 check 'script: the longest record' 1 'refused 5 place 1' 'Formula 1' "$script" record "$room/longest"
+check 'script: 256 signers' 0 "$all" '' "$script" record "$room/signed"
 check 'script: standard input' 0 'granted 1 7' '' "$script" record - <"$room/A"
 check 'script: no such file' 2 '' 'there is no file' "$script" record "$room/missing"
 check 'script: a folder' 2 '' 'is a folder' "$script" record "$room"
@@ -172,7 +185,12 @@ for number in 1 2 3 4 5 6 7 8 9 10 11 12 13 14 15; do
     tell 0 0 "refused $number place 3"
     pretend "reason $number" 1 "refused $number place 3" '.'
 done
-for line in 'refused 16 place 0' 'refused' 'grants' ''; do
+for line in 'granted 0' 'granted 2 7 8'; do
+    tell 0 0 "$line"
+    pretend "the line '$line'" 0 "$line" ''
+done
+for line in 'refused 16 place 0' 'refused' 'refused 14 place x' 'refused 14 place' "refused 3 place 0${newline}granted 1 7" 'grants' 'granted' 'granted x' \
+    'granted 5 7' 'granted 1 7 8' 'granted 1  7' 'granted 1 7 ' ' granted 1 7' 'granted 1 *' "granted 1 7${newline}granted 1 7" 'equal' ''; do
     tell 0 0 "$line"
     pretend "the line '$line'" 2 '' 'wethrynda:'
 done

@@ -1,1 +1,2 @@
+-- The theorems whose statements are in specs/, and the laws behind the code.
 pub mod Tells

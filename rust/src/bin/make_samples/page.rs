@@ -15,7 +15,8 @@ writes.
 
 How a record is laid out stands in `crates/record/specs/Layout.antt`, and the rules, as a table, in `crates/steps/specs/Rules.antt`. Here a0 is atom 0,
 p7 is principal 7, and a formula that has parts stands in round brackets. Before an entry of the table, a statement and the goal stands the formula's
-number. A step is written as its place, counted from 0, its word, its rule, and the hypothesis that it names, if any.
+number. A step is written as its place, counted from 0, its word, its rule, and the hypothesis that it names, if any. A paper of p7 is a statement of the form
+(p7 says A), and an order any other statement.
 
 ";
 

@@ -129,7 +129,7 @@ fn of_document_01() -> Section {
             ),
             sample(
                 "J",
-                "The paper of p7 lies in the folder twice. It is one hypothesis, and p7 is one signer.",
+                "The paper of p7 stands there twice. It is one hypothesis, and p7 is one signer.",
                 record(&t, &[p7, p7], p7, &steps_a),
                 "granted 1 7",
             ),
