@@ -17,6 +17,18 @@ use Rattle.record.proofs.Lengths.{length-words, sized-table}
 pub table-sized : (file : List ℕ) → Sized file → {hs ss : List ℕ} → hs ≡ heads file → ss ≡ seconds file → SizedTable hs ss
 table-sized file keeps-size eh es = rw eh (rw es (sized-table file keeps-size))
 
+-- The words and the sizes, and what the code cuts out by them: from one place to the next, the last of them within the words.
+pub record Cuts (file words : List ℕ) (s : Sizes) : Type 0 where
+  pub end-within : 4 + s .formulas + s .formulas + s .statements + s .steps ≤ length words
+  pub heads-cut : take (4 + s .formulas - 4) (drop 4 words) ≡ heads file
+  pub seconds-cut : take (4 + s .formulas + s .formulas - (4 + s .formulas)) (drop (4 + s .formulas) words) ≡ seconds file
+  pub statements-cut :
+      take (4 + s .formulas + s .formulas + s .statements - (4 + s .formulas + s .formulas)) (drop (4 + s .formulas + s .formulas) words) ≡ statements file
+  pub steps-cut :
+      take (4 + s .formulas + s .formulas + s .statements + s .steps - (4 + s .formulas + s .formulas + s .statements))
+      (drop (4 + s .formulas + s .formulas + s .statements) words)
+      ≡ steps file
+
 -- The code reads the words into a list that has room for the longest record, and the sizes s.
 module _
     (file : List ℕ) (keeps-size : Sized file) (old : List ℕ) {words : List ℕ} {s : Sizes} (room : mostWords ≤ length old)
@@ -37,8 +49,8 @@ module _
     has-room = let r = keeps-size .in-range in let f = r .few-formulas in let t = r .few-statements in let n = r .few-steps in omega (arith, length-words file keeps-size)
 
     -- and the last part ends with them.
-    pub end-within : 4 + s .formulas + s .formulas + s .statements + s .steps ≤ length words
-    end-within = rw read (omega (arith, written-length old (fileWords file), has-room, length-words file keeps-size, F-is, S-is, N-is))
+    end : 4 + s .formulas + s .formulas + s .statements + s .steps ≤ length words
+    end = rw read (omega (arith, written-length old (fileWords file), has-room, length-words file keeps-size, F-is, S-is, N-is))
 
     -- What is cut from one place to another is that part of the file.
     cut : (from to at count : ℕ) → from ≡ at → to ≡ at + count → at + count ≤ length (fileWords file) → take (to - from) (drop from words) ≡ part file at count
@@ -46,25 +58,18 @@ module _
         let many : to - from ≡ count = omega arith in
         (λ i. take (many i) (drop (e i) (read i))) ∙ part-written old (fileWords file) at count l has-room
 
-    pub heads-cut : take (4 + s .formulas - 4) (drop 4 words) ≡ heads file
-    heads-cut = cut 4 (4 + s .formulas) 4 (formulas file) refl (omega (arith, F-is)) (omega (arith, length-words file keeps-size))
-
-    pub seconds-cut : take (4 + s .formulas + s .formulas - (4 + s .formulas)) (drop (4 + s .formulas) words) ≡ seconds file
-    seconds-cut =
-        cut (4 + s .formulas) (4 + s .formulas + s .formulas) (4 + formulas file) (formulas file) (omega (arith, F-is)) (omega (arith, F-is))
-        (omega (arith, length-words file keeps-size))
-
-    pub statements-cut :
-        take (4 + s .formulas + s .formulas + s .statements - (4 + s .formulas + s .formulas)) (drop (4 + s .formulas + s .formulas) words) ≡ statements file
-    statements-cut =
-        cut (4 + s .formulas + s .formulas) (4 + s .formulas + s .formulas + s .statements) (4 + 2 * formulas file) (statementCount file)
-        (omega (arith, F-is)) (omega (arith, F-is, S-is)) (omega (arith, length-words file keeps-size))
-
-    pub steps-cut :
-        take (4 + s .formulas + s .formulas + s .statements + s .steps - (4 + s .formulas + s .formulas + s .statements))
-        (drop (4 + s .formulas + s .formulas + s .statements) words)
-        ≡ steps file
-    steps-cut =
-        cut (4 + s .formulas + s .formulas + s .statements) (4 + s .formulas + s .formulas + s .statements + s .steps)
-        (4 + 2 * formulas file + statementCount file) (stepCount file)
-        (omega (arith, F-is, S-is)) (omega (arith, F-is, S-is, N-is)) (omega (arith, length-words file keeps-size))
+    pub cuts : Cuts file words s
+    cuts = record {
+      end-within = end;
+      heads-cut = cut 4 (4 + s .formulas) 4 (formulas file) refl (omega (arith, F-is)) (omega (arith, length-words file keeps-size));
+      seconds-cut =
+          cut (4 + s .formulas) (4 + s .formulas + s .formulas) (4 + formulas file) (formulas file) (omega (arith, F-is)) (omega (arith, F-is))
+          (omega (arith, length-words file keeps-size));
+      statements-cut =
+          cut (4 + s .formulas + s .formulas) (4 + s .formulas + s .formulas + s .statements) (4 + 2 * formulas file) (statementCount file)
+          (omega (arith, F-is)) (omega (arith, F-is, S-is)) (omega (arith, length-words file keeps-size));
+      steps-cut =
+          cut (4 + s .formulas + s .formulas + s .statements) (4 + s .formulas + s .formulas + s .statements + s .steps)
+          (4 + 2 * formulas file + statementCount file) (stepCount file)
+          (omega (arith, F-is, S-is)) (omega (arith, F-is, S-is, N-is)) (omega (arith, length-words file keeps-size));
+    }
