@@ -4,9 +4,9 @@ use native.Mathlib.Nat.{mod-add-div}
 use native.Mathlib.Omega.{arith, min-cases}
 use mathlib.Core.Path.{_≡_, refl, sym, ap, ap₂, _∙_}
 use mathlib.Core.List.{List, [], _∷_, List·Memᴰ·head, List·Memᴰ·tail}
-use lib.ListN.{length, getD, take, length-take, List·getD-eq-default}
-use lib.Seq.{getD-take, take-all}
-use Rattle.file.specs.Words.{fileWords, wordAt, fileOf, WordsOfFile, FileOfWords, HalfAsMany}
+use lib.ListN.{length, getD, take, drop, length-take, List·getD-eq-default}
+use lib.Seq.{getD-take, getD-drop, take-all}
+use Rattle.file.specs.Words.{fileWords, wordAt, fileOf, PartAt, WordsOfFile, FileOfWords, HalfAsMany}
 
 pub words-of-file : WordsOfFile
 unfolding fileWords fileOf
@@ -28,6 +28,9 @@ unfolding fileWords
 half-as-many [] = refl
 half-as-many (low ∷ []) = refl
 half-as-many (low ∷ high ∷ file) = omega (arith, half-as-many file)
+
+pub part-at : PartAt
+part-at file from count i within = getD-take count (drop from (fileWords file)) i 0 within ∙ getD-drop from (fileWords file) i 0
 
 -- The word at a position has the bytes at twice that position, low byte first;
 pub word-here : (file : List ℕ) (i : ℕ) → i < length file / 2 → wordAt file i ≡ getD file (2 * i) 0 + 256 * getD file (2 * i + 1) 0

@@ -19,6 +19,10 @@ wordAt file i = getD (fileWords file) i 0
 abbrev pub part : List ℕ → ℕ → ℕ → List ℕ
 part file from count = take count (drop from (fileWords file))
 
+-- What stands in a part, position by position.
+abbrev pub PartAt : Type 0
+PartAt = (file : List ℕ) (from count i : ℕ) → i < count → getD (part file from count) i 0 ≡ wordAt file (from + i)
+
 -- the bytes of words
 unfoldable pub fileOf : List ℕ → List ℕ
 fileOf [] = []
