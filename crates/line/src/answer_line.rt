@@ -9,7 +9,7 @@ use crate::record_line::write_record_line;
 use record::check::check_record;
 use table::limits::MOST_STATEMENTS;
 
-// Bytes for a line: every line has room (`WholeLine`).
+// Bytes for a line: every line has room (`WholeLine`). Free: what they hold before a line is written.
 pub fn line_buffer() -> [u8; MOST_LINE]
     ensures { λ r. ⌜ mostLine ≡ length r ⌝ }
 {

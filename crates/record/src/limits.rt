@@ -12,7 +12,7 @@ pub const MOST_WORDS: usize = 4 + 2 * MOST_FORMULAS + MOST_STATEMENTS + MOST_STE
 pub const MOST_BYTES: usize = 2 * MOST_WORDS;
 
 // Bytes for a file, one more than the longest record has: so a longer file is seen to be longer, and its answer is that of the bytes here
-// (`LongerFile`).
+// (`LongerFile`). Free: what they hold before a file is read into them.
 pub fn file_buffer() -> [u8; MOST_BYTES + 1]
     ensures { λ r. ⌜ suc mostBytes ≡ length r ⌝ }
 {
