@@ -53,7 +53,7 @@ Forward next (Done v) = next < v .next
 Forward next (Refused number place) = Unit
 
 -- The answer r is the machine's, for walk w and the obligation o from word next on, whatever hypotheses the slots hold. (Slots that hold no
--- list of w's count leave r free. `check_proof` makes the slots itself, so its own contract has no such case.)
+-- list of w's count leave r free. `check_goal` is called with slots that hold the statements, so its contract has no such case.)
 pub record Answers (es : List Entry) (steps slots : List ℕ) (w : Walk) (next : ℕ) (o : List ℕ → Obligation) (r : Walked) : Type 0 where
   pub answer : (hypotheses : List ℕ) → Held hypotheses slots (w .held)
       → r ≡ outcome w (walkFrom same mostDepth es steps next (o hypotheses ∷ []))

@@ -2,7 +2,7 @@
 -- a premise's step one more than its conclusion's." (01) Goal, Premise and Added are the code's own types. Assumes nothing.
 use Prim.Native.Nat.{ℕ, suc}
 use mathlib.Core.Bool.{Bool, true, false}
-use mathlib.Core.List.{List, [], _∷_, _++_}
+use mathlib.Core.List.{List, [], _∷_, _++_, map}
 use lib.Dec.{eqb}
 use Rattle.table.specs.Choice.{pick}
 use Rattle.table.specs.Entry.{formula}
@@ -20,6 +20,10 @@ pub record Obligation : Type 0 where
 -- A proof of a formula from statements "has the formula's truth as goal and the list's statements as hypotheses" (01).
 abbrev pub due : List ℕ → ℕ → Obligation
 due statements n = record { hypotheses = statements; goal = True (formula n); depth = 1 }
+
+-- A proof of each of these formulas, from the same statements, "in order .. one for every position" (01, "The exchange file").
+abbrev pub dues : List ℕ → List ℕ → List Obligation
+dues statements goals = map (due statements) goals
 
 -- the numbers that a premise adds
 abbrev pub added : Added → List ℕ
