@@ -2,7 +2,7 @@
 use Prim.Native.Nat.{ℕ}
 use native.Mathlib.Omega.{arith}
 use mathlib.Core.Bool.{Bool, true, false}
-use mathlib.Core.Path.{_≡_, refl, ap, _∙_}
+use mathlib.Core.Path.{_≡_, refl, sym, ap, _∙_}
 use mathlib.Core.Logic.{_↔_, _⊎_, inl, inr, ⊎-elim}
 use mathlib.Core.List.{List, [], _∷_, _++_}
 use Rattle.table.specs.declared.place.Place.{Place}
@@ -11,6 +11,10 @@ use Rattle.table.specs.declared.check.Tested.{Tested}
 use Rattle.table.specs.declared.check.Tested.the-variants.{Passed, Refused}
 use Rattle.table.specs.Tests.{refusedAt}
 use Rattle.file.specs.Refusals.{Test, test, at0, firstRefusal, RefusedByFirst, PassedByAll}
+
+-- A refusal is no pass.
+pub not-passed : {number p : ℕ} → Refused number p ≡ Passed → ⊥
+not-passed e = let z : _≡_ {A = ℕ} 0 1 = cc in omega arith
 
 -- One test refuses where it applies, else what follows does.
 one-refuses :
@@ -26,7 +30,7 @@ one-passes n Nowhere next = (λ e. (refl, e), λ h. h .1)
 
 pub refused-by-first : RefusedByFirst
 unfolding firstRefusal
-refused-by-first [] number p = (λ e. let z : _≡_ {A = ℕ} 0 1 = cc in omega arith, absurd)
+refused-by-first [] number p = (λ e. not-passed (sym e), absurd)
 refused-by-first (t ∷ ts) number p =
     let one = one-refuses (t .number) (t .place) (firstRefusal ts) number p in
     let rest = refused-by-first ts number p in
@@ -71,7 +75,7 @@ refused-through n Nowhere through e = through e
 -- What the first of two lists of tests refuses, both refuse;
 pub joined-refused : (ts us : List Test) {number p : ℕ} → firstRefusal ts ≡ Refused number p → firstRefusal (ts ++ us) ≡ Refused number p
 unfolding firstRefusal
-joined-refused [] us e = let z : _≡_ {A = ℕ} 0 1 = cc in absurd (omega arith)
+joined-refused [] us e = absurd (not-passed (sym e))
 joined-refused (t ∷ ts) us e = refused-through (t .number) (t .place) (joined-refused ts us) e
 
 -- where it lets pass, the second decides.

@@ -1,6 +1,6 @@
 -- "Every other file .. is refused by the first reason in the fixed order that applies, with its place" (demand 1): what "first" means, for
 -- any list of tests. Proved in proofs/Refusals.antt. Assumes nothing.
-use Prim.Native.Nat.{ℕ}
+use Prim.Native.Nat.{ℕ, _<_}
 use mathlib.Core.Bool.{Bool}
 use mathlib.Core.Path.{_≡_}
 use mathlib.Core.Logic.{_↔_, _⊎_}
@@ -43,3 +43,8 @@ RefusedByFirst = (ts : List Test) (number p : ℕ) → firstRefusal ts ≡ Refus
 
 abbrev pub PassedByAll : Type 0
 PassedByAll = (ts : List Test) → firstRefusal ts ≡ Passed ↔ NoneApplies ts
+
+-- Of reasons to refuse, each with its number and its place: one that applies, where none with a lower number does.
+pub record FirstReason (Reason : ℕ → ℕ → Type 0) (number p : ℕ) : Type 0 where
+  pub applies : Reason number p
+  pub none-before : (n q : ℕ) → n < number → ¬ Reason n q

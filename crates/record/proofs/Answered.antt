@@ -10,16 +10,14 @@ use Rattle.table.specs.declared.check.Tested.the-variants as Test
 use Rattle.steps.specs.declared.verdict.Verdict as Step
 use Rattle.steps.specs.declared.verdict.Verdict.the-variants as Steps
 use Rattle.file.specs.Refusals.{firstRefusal}
+use Rattle.file.proofs.Refusals.{not-passed}
 use Rattle.record.specs.declared.verdict.Verdict.the-variants.{Granted, Refused}
 use Rattle.record.specs.Layout.{signers}
 use Rattle.record.specs.Answer.{tests, stepVerdict, afterTests, afterSteps, recordAnswer}
 
--- A refusal is no grant, no pass, and no proof that closes.
+-- A refusal is no grant, and no proof that closes.
 not-granted : {number p count : ℕ} → Refused number p ≡ Granted count → ⊥
 not-granted e = let z : _≡_ {A = ℕ} 0 1 = cc in omega arith
-
-not-passed : {number p : ℕ} → Test.Refused number p ≡ Test.Passed → ⊥
-not-passed e = let z : _≡_ {A = ℕ} 0 1 = cc in omega arith
 
 not-closed : {number p q : ℕ} → Steps.Refused number p ≡ Steps.Closed q → ⊥
 not-closed e = let z : _≡_ {A = ℕ} 0 1 = cc in omega arith

@@ -4,7 +4,7 @@ use native.Mathlib.Omega.{arith}
 use mathlib.Core.Bool.{Bool, true, false}
 use mathlib.Core.Path.{_≡_, sym, ap, _∙_}
 use mathlib.Core.List.{List, [], _∷_}
-use lib.ListN.{length, getD}
+use lib.ListN.{length}
 use lib.Dec.{ltb, leb}
 use borrow.Author.Tests.{lt-ltb, le-ltb}
 use Rattle.table.specs.declared.place.Place.{Place}
@@ -12,26 +12,12 @@ use Rattle.table.specs.declared.place.Place.the-variants.{At, Nowhere}
 use Rattle.table.specs.declared.check.Tested.{Tested}
 use Rattle.table.specs.declared.check.Tested.the-variants.{Passed, Refused}
 use Rattle.table.specs.Choice.{pick}
-use Rattle.table.specs.First.{first}
 use Rattle.table.specs.Tests.{entries, wrongEntry, repeatedEntry, tableTests}
-use Rattle.table.proofs.First.{first-at}
 use Rattle.file.specs.Refusals.{Test, test, at0, firstRefusal}
+use Rattle.file.specs.Tests.{outside}
 use Rattle.file.proofs.Refusals.{applies, goes-on, applies-at-0, goes-on-at-0, joined-refused, joined-passed, none-left}
 use Rattle.signers.specs.Signers.{signers}
-use Rattle.record.specs.Answer.{outside}
 use Rattle.record.specs.Parts.{arrayTests, SizedTable}
-
--- 7 at position i, and none before it
-pub outside-at :
-    (F : ℕ) (numbers : List ℕ) (i : ℕ) → i < length numbers → leb F (getD numbers i 0) ≡ true
-    → first (λ j. leb F (getD numbers j 0)) i ≡ Nowhere → At i ≡ outside F numbers
-outside-at F numbers i within more none = sym (first-at (λ j. leb F (getD numbers j 0)) (length numbers) i none more within)
-
--- none before the end
-pub outside-nowhere :
-    (F : ℕ) (numbers : List ℕ) (i : ℕ) → i ≡ length numbers
-    → first (λ j. leb F (getD numbers j 0)) i ≡ Nowhere → Nowhere ≡ outside F numbers
-outside-nowhere F numbers i end none = sym (ap (λ (n : ℕ). first (λ j. leb F (getD numbers j 0)) n) (sym end) ∙ none)
 
 module _ (heads seconds statements : List ℕ) (goal room : ℕ) (sized : SizedTable heads seconds) {t : Tested} (answered : t ≡ tableTests heads seconds) where
   -- 4 and 5, which `check_table` makes, and those that follow

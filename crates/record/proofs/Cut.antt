@@ -1,12 +1,13 @@
 -- The parts that the code cuts out of the words of a file are the file's. Assumes nothing.
 use Prim.Native.Nat.{ℕ, _+_, _-_, _*_, _≤_}
 use native.Mathlib.Omega.{arith}
-use mathlib.Core.Path.{_≡_, refl, ap, _∙_}
+use mathlib.Core.Path.{_≡_, refl, ap}
 use mathlib.Core.List.{List}
 use lib.ListN.{length, take, drop}
 use Rattle.lent.specs.Written.{written}
-use Rattle.lent.proofs.Written.{written-length, part-written}
-use Rattle.file.specs.Words.{fileWords, part}
+use Rattle.lent.proofs.Written.{written-length}
+use Rattle.file.specs.Words.{fileWords}
+use Rattle.file.proofs.Parts.{cut}
 use Rattle.record.specs.declared.layout.Sizes.{Sizes}
 use Rattle.record.specs.Layout.{formulas, statementCount, stepCount, heads, seconds, statements, steps}
 use Rattle.record.specs.Parts.{mostWords, sizesOf, SizedTable}
@@ -52,24 +53,18 @@ module _
     end : 4 + s .formulas + s .formulas + s .statements + s .steps ≤ length words
     end = rw read (omega (arith, written-length old (fileWords file), has-room, length-words file keeps-size, F-is, S-is, N-is))
 
-    -- What is cut from one place to another is that part of the file.
-    cut : (from to at count : ℕ) → from ≡ at → to ≡ at + count → at + count ≤ length (fileWords file) → take (to - from) (drop from words) ≡ part file at count
-    cut from to at count e f l =
-        let many : to - from ≡ count = omega arith in
-        (λ i. take (many i) (drop (e i) (read i))) ∙ part-written old (fileWords file) at count l has-room
-
     pub cuts : Cuts file words s
     cuts = record {
       end-within = end;
-      heads-cut = cut 4 (4 + s .formulas) 4 (formulas file) refl (omega (arith, F-is)) (omega (arith, length-words file keeps-size));
+      heads-cut = cut file old read has-room 4 (4 + s .formulas) 4 (formulas file) refl (omega (arith, F-is)) (omega (arith, length-words file keeps-size));
       seconds-cut =
-          cut (4 + s .formulas) (4 + s .formulas + s .formulas) (4 + formulas file) (formulas file) (omega (arith, F-is)) (omega (arith, F-is))
+          cut file old read has-room (4 + s .formulas) (4 + s .formulas + s .formulas) (4 + formulas file) (formulas file) (omega (arith, F-is)) (omega (arith, F-is))
           (omega (arith, length-words file keeps-size));
       statements-cut =
-          cut (4 + s .formulas + s .formulas) (4 + s .formulas + s .formulas + s .statements) (4 + 2 * formulas file) (statementCount file)
+          cut file old read has-room (4 + s .formulas + s .formulas) (4 + s .formulas + s .formulas + s .statements) (4 + 2 * formulas file) (statementCount file)
           (omega (arith, F-is)) (omega (arith, F-is, S-is)) (omega (arith, length-words file keeps-size));
       steps-cut =
-          cut (4 + s .formulas + s .formulas + s .statements) (4 + s .formulas + s .formulas + s .statements + s .steps)
+          cut file old read has-room (4 + s .formulas + s .formulas + s .statements) (4 + s .formulas + s .formulas + s .statements + s .steps)
           (4 + 2 * formulas file + statementCount file) (stepCount file)
           (omega (arith, F-is, S-is)) (omega (arith, F-is, S-is, N-is)) (omega (arith, length-words file keeps-size));
     }

@@ -17,11 +17,11 @@ use Rattle.steps.specs.Words.{words}
 use Rattle.steps.specs.Carried.{InTable}
 use Rattle.steps.specs.Figure1.{Carried}
 use Rattle.steps.proofs.Figure1.{runs-are-derivations}
+use Rattle.file.proofs.Unlike.{not-repeated}
 use Rattle.record.specs.Layout.{goal, heads, seconds, statements, steps, table}
 use Rattle.record.specs.Answer.{stepVerdict}
 use Rattle.record.specs.Proof.{Keeps, IsProof}
 use Rattle.record.proofs.Lengths.{length-table, sized-table}
-use Rattle.record.proofs.Keeps.{none-repeated}
 
 module _ (file : List ℕ) where
   -- A derivation whose words are the steps, and nothing after them.
@@ -41,7 +41,7 @@ module _ (file : List ℕ) where
     table-passes =
         passed (heads file) (seconds file) (sized-table file (keeps .sized))
         (no-fault-ordered (table file) .1 (keeps .ordered))
-        (none-repeated (heads file) (seconds file) .1 (keeps .none-repeated))
+        (not-repeated (heads file) (seconds file) .1 (keeps .none-repeated))
 
     -- and all numbers are in it.
     in-table : (o : Obligation) → o ∈ due (statements file) (goal file) ∷ [] → InTable (table file) o

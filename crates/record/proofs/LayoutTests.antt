@@ -1,20 +1,18 @@
--- 1 to 3 as the code makes them: each answer is a case of `layoutTests`. Assumes nothing.
+-- 1 to 3 as the code makes them: whether the sizes are in range, and the tests by the sizes that were read. Assumes nothing.
 use Prim.Native.Nat.{ℕ, _≤_, _<_}
-use mathlib.Core.Bool.{Bool, true, false, not}
-use mathlib.Core.Path.{_≡_, sym, ap, _∙_}
-use mathlib.Core.Logic.{_≢_}
-use mathlib.Core.List.{List, [], _∷_}
-use lib.ListN.{length}
+use mathlib.Core.Bool.{Bool, true, false}
+use mathlib.Core.Path.{_≡_, sym, ap, ap₂, _∙_}
+use mathlib.Core.List.{List}
 use lib.Dec.{leb}
-use borrow.Author.Tests.{lt-ltb, le-ltb, le-leb, lt-leb, eq-eqb, ne-eqb}
-use Rattle.table.specs.declared.check.Tested.the-variants.{Passed, Refused}
+use borrow.Author.Tests.{le-leb, lt-leb}
+use Rattle.table.specs.declared.check.Tested.{Tested}
 use Rattle.table.specs.Limits.{mostFormulas, mostStatements, mostSteps}
 use Rattle.table.specs.Choice.{both}
-use Rattle.file.specs.Refusals.{test, firstRefusal}
-use Rattle.file.proofs.Refusals.{applies-at-0, goes-on-at-0, none-left}
+use Rattle.file.specs.Refusals.{firstRefusal}
+use Rattle.file.specs.Tests as Shared
 use Rattle.record.specs.declared.layout.Sizes.{Sizes}
-use Rattle.record.specs.Layout.{formulas, statementCount, stepCount, bytes, size}
-use Rattle.record.specs.Answer.{inRange, sizeOutside, otherLength}
+use Rattle.record.specs.Layout.{formulas, statementCount, stepCount, bytes}
+use Rattle.record.specs.Answer.{inRange}
 use Rattle.record.specs.Parts.{sizesOf, layoutTests}
 
 -- ---- whether the sizes are in range
@@ -42,33 +40,10 @@ module _ (file : List ℕ) where
       → record { formulas = f; statements = s; steps = n } ≡ sizesOf file
   sizes-are e f g = λ i. record { formulas = e i; statements = f i; steps = g i }
 
-  -- 1 applies
-  pub refused-1 : length file < 8 → Refused 1 0 ≡ layoutTests file
-  refused-1 less = sym (applies-at-0 1 _ (lt-ltb _ _ less))
-
-  -- Past 1, the code reads the sizes s, and asks whether they fit.
-  module _ {s : Sizes} {fit : Bool} (long : 8 ≤ length file) (is : s ≡ sizesOf file) (asked : fit ≡ inRange (s .formulas) (s .statements) (s .steps)) where
-    -- 1 goes on to 2 and 3,
-    after-1 : layoutTests file ≡ firstRefusal (test 2 (sizeOutside file) ∷ test 3 (otherLength file) ∷ [])
-    after-1 = goes-on-at-0 1 _ (le-ltb _ _ long)
-
-    -- and 2 asks the same of the file.
-    fits : fit ≡ inRange (sizesOf file .formulas) (sizesOf file .statements) (sizesOf file .steps)
-    fits = asked ∙ ap (λ (z : Sizes). inRange (z .formulas) (z .statements) (z .steps)) is
-
-    pub refused-2 : fit ≡ false → Refused 2 0 ≡ layoutTests file
-    refused-2 e = sym (after-1 ∙ applies-at-0 2 _ (ap not (sym fits ∙ e)))
-
-    -- Past 2, the code has the length n that the sizes ask for.
-    module _ {n : ℕ} (fit-is : fit ≡ true) (n-is : n ≡ bytes (s .formulas) (s .statements) (s .steps)) where
-      after-2 : layoutTests file ≡ firstRefusal (test 3 (otherLength file) ∷ [])
-      after-2 = after-1 ∙ goes-on-at-0 2 _ (ap not (sym fits ∙ fit-is))
-
-      n-is-size : n ≡ size file
-      n-is-size = n-is ∙ ap (λ (z : Sizes). bytes (z .formulas) (z .statements) (z .steps)) is
-
-      pub refused-3 : length file ≢ n → Refused 3 0 ≡ layoutTests file
-      refused-3 other = sym (after-2 ∙ applies-at-0 3 _ (ap not (ne-eqb _ _ (λ e. other (e ∙ sym n-is-size)))))
-
-      pub passed-3 : length file ≡ n → Passed ≡ layoutTests file
-      passed-3 e = sym (after-2 ∙ goes-on-at-0 3 _ (ap not (eq-eqb _ _ (e ∙ n-is-size))) ∙ none-left)
+  -- The code reads the sizes s, asks whether they fit, and has the length n that they ask for: so 1 to 3 are those of the file.
+  pub by-sizes : {s : Sizes} {fit : Bool} {n : ℕ} {t : Tested} → s ≡ sizesOf file → fit ≡ inRange (s .formulas) (s .statements) (s .steps)
+      → n ≡ bytes (s .formulas) (s .statements) (s .steps) → t ≡ firstRefusal (Shared.layoutTests file fit n) → t ≡ layoutTests file
+  by-sizes is asked n-is answered =
+      let fits = asked ∙ ap (λ (z : Sizes). inRange (z .formulas) (z .statements) (z .steps)) is in
+      let long = n-is ∙ ap (λ (z : Sizes). bytes (z .formulas) (z .statements) (z .steps)) is in
+      answered ∙ ap₂ (λ (b : Bool) (m : ℕ). firstRefusal (Shared.layoutTests file b m)) fits long

@@ -4,13 +4,13 @@ use native.Mathlib.Omega.{arith}
 use mathlib.Core.Bool.{true}
 use mathlib.Core.List.{List}
 use mathlib.Core.Path.{_≡_, sym, _∙_}
-use lib.ListN.{length, drop, length-take, length-drop}
-use lib.Seq.{length-take-le}
+use lib.ListN.{length}
 use Rattle.table.specs.Limits.{mostFormulas}
 use Rattle.table.specs.Tests.{sized}
 use Rattle.table.proofs.Entries.{length-entries, length-entries-equal}
-use Rattle.file.specs.Words.{fileWords, part}
+use Rattle.file.specs.Words.{fileWords}
 use Rattle.file.proofs.FileWords.{half-as-many}
+use Rattle.file.proofs.Parts.{part-at-most, part-whole}
 use Rattle.file.proofs.Asked.{at-most, equal, both-are}
 use Rattle.record.specs.Layout.{formulas, statementCount, stepCount, heads, seconds, table}
 use Rattle.record.specs.Proof.{Sized}
@@ -18,17 +18,9 @@ use Rattle.record.specs.Proof.{Sized}
 module _ (file : List ℕ) where
   -- ---- of any file
 
-  -- A part is at most as long as it is asked for,
-  pub part-at-most : (from count : ℕ) → length (part file from count) ≤ count
-  part-at-most from count = omega (arith, length-take count (drop from (fileWords file)))
-
-  -- and as long where there are so many words;
-  part-whole : (from count : ℕ) → from + count ≤ length (fileWords file) → length (part file from count) ≡ count
-  part-whole from count l = length-take-le count (drop from (fileWords file)) (omega (arith, length-drop from (fileWords file)))
-
-  -- so the table has F entries at most.
+  -- The table has F entries at most.
   pub table-at-most : length (table file) ≤ formulas file
-  table-at-most = omega (arith, length-entries (heads file) (seconds file), part-at-most 4 (formulas file))
+  table-at-most = omega (arith, length-entries (heads file) (seconds file), part-at-most file 4 (formulas file))
 
   -- ---- of a file that has the length of its sizes
 
@@ -37,10 +29,10 @@ module _ (file : List ℕ) where
     length-words = let is = keeps-size .length-is in omega (arith, half-as-many file)
 
     pub length-heads : length (heads file) ≡ formulas file
-    length-heads = part-whole 4 (formulas file) (omega (arith, length-words))
+    length-heads = part-whole file 4 (formulas file) (omega (arith, length-words))
 
     pub length-seconds : length (seconds file) ≡ formulas file
-    length-seconds = part-whole (4 + formulas file) (formulas file) (omega (arith, length-words))
+    length-seconds = part-whole file (4 + formulas file) (formulas file) (omega (arith, length-words))
 
     pub length-table : length (table file) ≡ formulas file
     length-table = length-entries-equal (heads file) (seconds file) (length-heads ∙ sym length-seconds) ∙ length-heads

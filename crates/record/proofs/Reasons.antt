@@ -14,8 +14,9 @@ use Rattle.steps.specs.declared.verdict.Verdict.the-variants as Steps
 use Rattle.steps.specs.Obligation.{due}
 use Rattle.steps.specs.Figure1.{Stop}
 use Rattle.steps.proofs.Figure1.{refused-where}
+use Rattle.file.specs.Tests.{tooShort}
 use Rattle.record.specs.Layout.{formulas, goal, heads, seconds, statements, steps, size, table, signers}
-use Rattle.record.specs.Answer.{tooShort, sizeOutside, otherLength, goalOutside, statementOutside, listShort, tests, stepVerdict}
+use Rattle.record.specs.Answer.{sizeOutside, otherLength, goalOutside, statementOutside, listShort, tests, stepVerdict}
 use Rattle.record.specs.Proof.{InRange}
 use Rattle.record.specs.Reasons.{Reason, fewer-than-8-bytes, size-outside, other-length, wrong-entry, repeated-entry, goal-outside, statement-outside, list-short, stops}
 use Rattle.file.proofs.Asked.{less, at-most, equal, other, at0-at}

@@ -15,14 +15,16 @@ use Rattle.steps.specs.Obligation.{due}
 use Rattle.steps.specs.Figure1.{run}
 use Rattle.steps.proofs.Figure1.{hypotheses-are-a-set}
 use Rattle.file.specs.Refusals.{test}
+use Rattle.file.specs.Tests.{tooShort}
+use Rattle.file.proofs.Outside.{none-outside}
 use Rattle.signers.specs.Each.{AreSigners}
 use Rattle.signers.proofs.Each.{signers-are, one-count, same-signers}
 use Rattle.record.specs.Layout.{formulas, goal, statements, steps, table, signers}
-use Rattle.record.specs.Answer.{tooShort, sizeOutside, otherLength, goalOutside, statementOutside, listShort, tests, stepVerdict, recordAnswer}
+use Rattle.record.specs.Answer.{sizeOutside, otherLength, goalOutside, statementOutside, listShort, tests, stepVerdict, recordAnswer}
 use Rattle.record.specs.Proof.{Sized}
 use Rattle.record.specs.Promises.{SameSet, StatementsAreASet, StatedTwice}
 use Rattle.record.proofs.Lengths.{length-heads}
-use Rattle.record.proofs.Keeps.{sized, statements-in}
+use Rattle.record.proofs.Keeps.{sized}
 use Rattle.record.proofs.Granted.{granted-exactly}
 
 -- The other way round.
@@ -69,15 +71,15 @@ module _ (file other : List ℕ) (s : SameSet file other) where
     -- 1 to 3 and 7 don't apply to either, and the others look at what is the same.
     same-tests : tests file room ≡ tests other room
     same-tests =
-        let (one, two, three) = sized file .1 fits in
-        let (one′, two′, three′) = sized other .1 fits′ in
+        let (one, (two, (three, _))) = sized file .1 fits in
+        let (one′, (two′, (three′, _))) = sized other .1 fits′ in
         let first : tooShort file ≡ tooShort other = one ∙ sym one′ in
         let second : sizeOutside file ≡ sizeOutside other = two ∙ sym two′ in
         let third : otherLength file ≡ otherLength other = three ∙ sym three′ in
         let fourth : wrongEntry (table file) ≡ wrongEntry (table other) = ap wrongEntry same-table in
         let fifth = ap₂ repeatedEntry (s .same-heads) (s .same-seconds) in
         let sixth : goalOutside file ≡ goalOutside other = cc (same-formulas, s .same-goal) in
-        let seventh : statementOutside file ≡ statementOutside other = statements-in file .1 below ∙ sym (statements-in other .1 below′) in
+        let seventh : statementOutside file ≡ statementOutside other = none-outside _ (statements file) .1 below ∙ sym (none-outside _ (statements other) .1 below′) in
         let eighth : listShort file room ≡ listShort other room = cc same-count in
         λ i.
         test 1 (first i) ∷ test 2 (second i) ∷ test 3 (third i) ∷ test 4 (fourth i) ∷ test 5 (fifth i) ∷ test 6 (sixth i) ∷ test 7 (seventh i)

@@ -9,10 +9,12 @@ use Rattle.record.specs.declared.verdict.Verdict.the-variants.{Granted, 
 use Rattle.record.specs.Layout.{formulas, statementCount, stepCount, statements, table}
 use Rattle.record.specs.Answer.{recordAnswer}
 use Rattle.record.specs.Proof.{InRange}
-use Rattle.record.specs.Reasons.{Reason, fewer-than-8-bytes, size-outside, other-length, wrong-entry, repeated-entry, goal-outside, statement-outside, list-short, stops, FirstReason}
+use Rattle.record.specs.Reasons.{Reason, fewer-than-8-bytes, size-outside, other-length, wrong-entry, repeated-entry, goal-outside, statement-outside, list-short, stops}
 use Rattle.record.specs.Promises.{Releases, Small, AnswersSmall}
+use Rattle.file.specs.Refusals.{FirstReason}
 use Rattle.file.proofs.Asked.{settled}
-use Rattle.record.proofs.Lengths.{part-at-most, table-at-most}
+use Rattle.file.proofs.Parts.{part-at-most}
+use Rattle.record.proofs.Lengths.{table-at-most}
 use Rattle.record.proofs.Keeps.{in-range}
 use Rattle.record.proofs.Granted.{granted-exactly}
 use Rattle.record.proofs.Reasons.{walked}
@@ -28,7 +30,7 @@ module _ (file : List ℕ) (room : ℕ) where
       omega (arith, part-at-most file (4 + 2 * formulas file) (statementCount file))
 
   -- A reason after 2 is given of a file whose sizes are in range,
-  ranges : (number p : ℕ) → FirstReason file room number p → 2 < number → InRange file
+  ranges : (number p : ℕ) → FirstReason (Reason file room) number p → 2 < number → InRange file
   ranges number p r l = settled _ (in-range file) (λ outside. r .none-before 2 0 l (size-outside refl refl outside))
 
   -- and a place that isn't 0 is within one of its parts.

@@ -2,41 +2,27 @@
 use Prim.Native.Nat.{ℕ}
 use mathlib.Core.Path.{_≡_, refl, sym, ap, _∙_}
 use mathlib.Core.Logic.{inl}
-use mathlib.Core.List.{List, [], _∷_, _++_}
+use mathlib.Core.List.{List, _++_}
 use lib.ListN.{length, drop}
 use Rattle.table.specs.declared.check.Tested.{Tested}
 use Rattle.table.specs.declared.check.Tested.the-variants as T
-use Rattle.table.specs.Tests.{wrongEntry, repeatedEntry}
 use Rattle.steps.specs.declared.verdict.Verdict as Step
 use Rattle.steps.specs.declared.verdict.Verdict.the-variants as Steps
 use Rattle.lent.proofs.Written.{written-fits}
-use Rattle.file.specs.Refusals.{Test, test, firstRefusal}
+use Rattle.file.specs.Refusals.{firstRefusal}
 use Rattle.file.proofs.Refusals.{passed-by-all, joined-refused, joined-passed}
 use Rattle.signers.proofs.Each.{signers-are}
 use Rattle.record.specs.declared.verdict.Verdict.{Verdict}
 use Rattle.record.specs.declared.verdict.Verdict.the-variants.{Granted, Refused}
 use Rattle.record.specs.Layout.{goal, heads, seconds, statements, steps, table, signers}
-use Rattle.record.specs.Answer.{tooShort, sizeOutside, otherLength, goalOutside, statementOutside, listShort, tests, stepVerdict, afterTests, afterSteps, recordAnswer}
+use Rattle.record.specs.Answer.{tests, stepVerdict, afterTests, afterSteps, recordAnswer}
 use Rattle.record.specs.Lent.{Left}
-use Rattle.record.specs.Parts.{layoutTests, arrayTests, tested, arraysAnswer, listAfter}
+use Rattle.record.specs.Parts.{firstTests, layoutTests, arrayTests, tested, arraysAnswer, listAfter}
 use Rattle.record.specs.Proof.{Sized}
 use Rattle.record.proofs.Lengths.{length-heads}
-use Rattle.record.proofs.Keeps.{sized}
+use Rattle.record.proofs.Keeps.{sized, laterTests}
 use Rattle.record.proofs.Granted.{granted-exactly}
 use Rattle.record.proofs.Answered.{answer-refused}
-
--- the tests of a file in two parts
-abbrev tests13 : List ℕ → List Test
-tests13 file = test 1 (tooShort file) ∷ test 2 (sizeOutside file) ∷ test 3 (otherLength file) ∷ []
-
-abbrev tests48 : List ℕ → ℕ → List Test
-tests48 file room =
-    test 4 (wrongEntry (table file))
-    ∷ test 5 (repeatedEntry (heads file) (seconds file))
-    ∷ test 6 (goalOutside file)
-    ∷ test 7 (statementOutside file)
-    ∷ test 8 (listShort file room)
-    ∷ []
 
 -- ---- 1 to 3
 
@@ -44,11 +30,11 @@ tests48 file room =
 pub layout-refused : (file : List ℕ) (room : ℕ) {t : Tested} {number p : ℕ} → t ≡ layoutTests file → t ≡ T.Refused number p
     → Refused number p ≡ recordAnswer file room
 layout-refused file room {t} {number} {p} answered e =
-    sym (answer-refused file room number p .1 (inl (joined-refused (tests13 file) (tests48 file room) (sym answered ∙ e))))
+    sym (answer-refused file room number p .1 (inl (joined-refused (firstTests file) (laterTests file room) (sym answered ∙ e))))
 
 -- A file that they let pass has the sizes and the length that the layout asks for.
 pub layout-passed : (file : List ℕ) {t : Tested} → t ≡ layoutTests file → t ≡ T.Passed → Sized file
-layout-passed file answered e = let (one, (two, (three, _))) = passed-by-all (tests13 file) .0 (sym answered ∙ e) in sized file .0 (one, two, three)
+layout-passed file answered e = sized file .0 (passed-by-all (firstTests file) .0 (sym answered ∙ e))
 
 -- ---- 4 to 15
 
@@ -61,8 +47,8 @@ module _ (file : List ℕ) (keeps-size : Sized file) where
   -- 4 to 8 are left of the tests
   tests-left : (room : ℕ) → arrayTests (heads file) (seconds file) (statements file) (goal file) room ≡ firstRefusal (tests file room)
   tests-left room =
-      let (one, two, three) = sized file .1 keeps-size in
-      rw (length-heads file keeps-size) (sym (joined-passed (tests13 file) (tests48 file room) (passed-by-all (tests13 file) .1 (one, (two, (three, tt))))))
+      let passed = passed-by-all (firstTests file) .1 (sized file .1 keeps-size) in
+      rw (length-heads file keeps-size) (sym (joined-passed (firstTests file) (laterTests file room) passed))
 
   answers : (room : ℕ) → arraysAnswer (heads file) (seconds file) (statements file) (goal file) (steps file) room ≡ recordAnswer file room
   unfolding recordAnswer

@@ -3,20 +3,20 @@
 use Prim.Native.Nat.{ℕ}
 use mathlib.Core.Bool.{Bool, not}
 use mathlib.Core.List.{List, [], _∷_}
-use lib.ListN.{length, getD}
+use lib.ListN.{length}
 use lib.Dec.{eqb, ltb, leb}
 use Rattle.table.specs.declared.place.Place.{Place}
 use Rattle.table.specs.declared.check.Tested.{Tested}
 use Rattle.table.specs.declared.check.Tested.the-variants as Test
 use Rattle.table.specs.Limits.{mostFormulas, mostStatements, mostSteps}
 use Rattle.table.specs.Choice.{both}
-use Rattle.table.specs.First.{first}
 use Rattle.table.specs.Tests.{wrongEntry, repeatedEntry}
 use Rattle.steps.specs.declared.verdict.Verdict as Step
 use Rattle.steps.specs.declared.verdict.Verdict.the-variants as Steps
 use Rattle.steps.specs.Obligation.{due}
 use Rattle.steps.specs.Figure1.{run}
 use Rattle.file.specs.Refusals.{Test, test, at0, firstRefusal}
+use Rattle.file.specs.Tests.{tooShort, outside}
 use Rattle.record.specs.declared.verdict.Verdict.{Verdict}
 use Rattle.record.specs.declared.verdict.Verdict.the-variants.{Granted, Refused}
 use Rattle.record.specs.Layout.{formulas, statementCount, stepCount, goal, heads, seconds, statements, steps, size, table, signers}
@@ -24,10 +24,6 @@ use Rattle.record.specs.Layout.{formulas, statementCount, stepCount, goa
 -- "F formulas (1 to 4,096), S statements (0 to 256), N steps (1 to 16,384)"
 abbrev pub inRange : ℕ → ℕ → ℕ → Bool
 inRange F S N = both (both (leb 1 F) (leb F mostFormulas)) (both (leb S mostStatements) (both (leb 1 N) (leb N mostSteps)))
-
--- "1. The file has fewer than 8 bytes (place 0)."
-abbrev pub tooShort : List ℕ → Place
-tooShort file = at0 (ltb (length file) 8)
 
 -- "2. F, S or N is outside its range (place 0)."
 abbrev pub sizeOutside : List ℕ → Place
@@ -41,10 +37,6 @@ otherLength file = at0 (not (eqb (length file) (size file)))
 abbrev pub goalOutside : List ℕ → Place
 goalOutside file = at0 (leb (formulas file) (goal file))
 
--- the first position of a number of F or more
-abbrev pub outside : ℕ → List ℕ → Place
-outside F numbers = first (λ i. leb F (getD numbers i 0)) (length numbers)
-
 -- "7. A statement's number is F or more (place: the first such position)."
 abbrev pub statementOutside : List ℕ → Place
 statementOutside file = outside (formulas file) (statements file)
@@ -53,8 +45,8 @@ statementOutside file = outside (formulas file) (statements file)
 abbrev pub listShort : List ℕ → ℕ → Place
 listShort file room = at0 (ltb room (length (signers file)))
 
--- 1 to 8, in 01's order. 4: "An entry has kind 6 or more or a wrong operand (place: the first such entry)." 5: "An entry has the head and
--- second of an earlier one (place: the first such later entry; ..)."
+-- 1 to 8, in 01's order. 1: "The file has fewer than 8 bytes (place 0)." 4: "An entry has kind 6 or more or a wrong operand (place: the first
+-- such entry)." 5: "An entry has the head and second of an earlier one (place: the first such later entry; ..)."
 abbrev pub tests : List ℕ → ℕ → List Test
 tests file room =
     test 1 (tooShort file)

@@ -15,13 +15,14 @@ use Rattle.steps.specs.declared.verdict.Verdict.the-variants as Steps
 use Rattle.steps.specs.Obligation.{due}
 use Rattle.steps.specs.Figure1.{run}
 use Rattle.lent.specs.Written.{written}
-use Rattle.file.specs.Refusals.{test, at0, firstRefusal}
+use Rattle.file.specs.Refusals.{Test, test, at0, firstRefusal}
+use Rattle.file.specs.Tests as Shared
 use Rattle.signers.specs.Signers.{signers}
 use Rattle.record.specs.declared.layout.Sizes.{Sizes}
 use Rattle.record.specs.declared.verdict.Verdict.{Verdict}
 use Rattle.record.specs.declared.verdict.Verdict.the-variants.{Granted, Refused}
-use Rattle.record.specs.Layout.{formulas, statementCount, stepCount}
-use Rattle.record.specs.Answer.{tooShort, sizeOutside, otherLength, outside, afterTests}
+use Rattle.record.specs.Layout.{formulas, statementCount, stepCount, size}
+use Rattle.record.specs.Answer.{inRange, afterTests}
 
 -- the sizes of a file
 abbrev pub sizesOf : List ℕ → Sizes
@@ -32,8 +33,11 @@ abbrev pub mostWords : ℕ
 mostWords = 4 + 2 * mostFormulas + mostStatements + mostSteps
 
 -- 1 to 3
+abbrev pub firstTests : List ℕ → List Test
+firstTests file = Shared.layoutTests file (inRange (formulas file) (statementCount file) (stepCount file)) (size file)
+
 abbrev pub layoutTests : List ℕ → Tested
-layoutTests file = firstRefusal (test 1 (tooShort file) ∷ test 2 (sizeOutside file) ∷ test 3 (otherLength file) ∷ [])
+layoutTests file = firstRefusal (firstTests file)
 
 -- 4 to 8, for a table of F entries
 abbrev pub arrayTests : List ℕ → List ℕ → List ℕ → ℕ → ℕ → Tested
@@ -42,7 +46,7 @@ arrayTests heads seconds statements goal room =
     (test 4 (wrongEntry (entries heads seconds))
     ∷ test 5 (repeatedEntry heads seconds)
     ∷ test 6 (at0 (leb (length heads) goal))
-    ∷ test 7 (outside (length heads) statements)
+    ∷ test 7 (Shared.outside (length heads) statements)
     ∷ test 8 (at0 (ltb room (length (signers (entries heads seconds) statements))))
     ∷ [])
 

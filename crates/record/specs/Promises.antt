@@ -6,13 +6,14 @@ use mathlib.Core.List.{List}
 use lib.ListN.{length, take}
 use Rattle.logic.specs.Hypotheses.{_∈_}
 use Rattle.table.specs.Limits.{mostStatements, mostSteps}
+use Rattle.file.specs.Refusals.{FirstReason}
 use Rattle.signers.specs.Each.{AreSigners}
 use Rattle.record.specs.declared.verdict.Verdict.{Verdict}
 use Rattle.record.specs.declared.verdict.Verdict.the-variants.{Granted, Refused}
 use Rattle.record.specs.Layout.{formulas, goal, heads, seconds, statements, steps, mostBytes, table, signers}
 use Rattle.record.specs.Answer.{recordAnswer}
 use Rattle.record.specs.Proof.{Sized, Keeps, IsProof}
-use Rattle.record.specs.Reasons.{FirstReason}
+use Rattle.record.specs.Reasons.{Reason}
 
 -- What a grant says. "A record that keeps the layout and its limits, whose words are a proof of its goal and whose signers fit the list lent
 -- for them, is granted with its signers." "Within the limits, and with a list long enough for the signers, the checker grants every such
@@ -26,9 +27,10 @@ pub record Releases (file : List ℕ) (room count : ℕ) : Type 0 where
 abbrev pub GrantedExactly : Type 0
 GrantedExactly = (file : List ℕ) (room count : ℕ) → recordAnswer file room ≡ Granted count ↔ Releases file room count
 
--- "Every other file, of any bytes and length, is refused by the first reason in the fixed order that applies, with its place" (demand 1)
+-- "Every other file, of any bytes and length, is refused by the first reason in the fixed order that applies, with its place" (demand 1): the
+-- reason with the lowest number of those that apply.
 abbrev pub RefusedExactly : Type 0
-RefusedExactly = (file : List ℕ) (room number p : ℕ) → recordAnswer file room ≡ Refused number p ↔ FirstReason file room number p
+RefusedExactly = (file : List ℕ) (room number p : ℕ) → recordAnswer file room ≡ Refused number p ↔ FirstReason (Reason file room) number p
 
 -- How large an answer can be.
 abbrev pub Small : Verdict → Type 0

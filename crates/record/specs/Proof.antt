@@ -2,7 +2,7 @@
 use Prim.Native.Nat.{ℕ, _≤_, _<_}
 use mathlib.Core.Path.{_≡_}
 use mathlib.Core.List.{List}
-use lib.ListN.{length, getD}
+use lib.ListN.{length}
 use Rattle.logic.specs.Hypotheses.{_∈_}
 use Rattle.logic.specs.Judgment.{truth}
 use Rattle.logic.specs.Depth.{stepDepths}
@@ -12,6 +12,7 @@ use Rattle.table.specs.Laws.{Ordered}
 use Rattle.table.specs.Spelled.{spell, spellAll}
 use Rattle.table.specs.Number.{number}
 use Rattle.steps.specs.Words as Derived
+use Rattle.file.specs.Tests.{NoneRepeated}
 use Rattle.record.specs.Layout.{formulas, statementCount, stepCount, goal, heads, seconds, statements, steps, size, table}
 
 -- "F formulas (1 to 4,096), S statements (0 to 256), N steps (1 to 16,384)"
@@ -26,12 +27,6 @@ pub record InRange (file : List ℕ) : Type 0 where
 pub record Sized (file : List ℕ) : Type 0 where
   pub in-range : InRange file
   pub length-is : length file ≡ size file
-
--- no two entries have the same head and second
-abbrev pub NoneRepeated : List ℕ → List ℕ → Type 0
-NoneRepeated heads seconds =
-    (i j : ℕ) → i < j → j < length heads
-    → getD heads i 0 ≡ getD heads j 0 → getD seconds i 0 ≡ getD seconds j 0 → ⊥
 
 -- "keeps the layout and its limits": 1 to 7 don't apply
 pub record Keeps (file : List ℕ) : Type 0 where

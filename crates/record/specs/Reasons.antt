@@ -23,10 +23,6 @@ pub data Reason (file : List ℕ) (room number p : ℕ) : Type 0 where
   goal-outside : number ≡ 6 → p ≡ 0 → formulas file ≤ goal file → Reason file room number p
   statement-outside : number ≡ 7 → IsFirst (λ i. leb (formulas file) (getD (statements file) i 0)) (length (statements file)) p → Reason file room number p
   list-short : number ≡ 8 → p ≡ 0 → room < length (signers file) → Reason file room number p
-  -- 9 to 14, which "run in this order at each step, steps in file order", and 15: the walk stops at p (steps/specs/Stops.antt has what each says)
+  -- 9 to 14, which "run in this order at each step, steps in file order", and 15: the walk stops at p (steps/specs/Stops.antt has what each says).
+  -- It stops at one place for one reason, so of these at most one applies.
   stops : Stop (table file) (steps file) (due (statements file) (goal file) ∷ []) number p → Reason file room number p
-
--- The reason has the lowest number of those that apply. (The walk stops at one place for one reason, so of 9 to 15 at most one applies.)
-pub record FirstReason (file : List ℕ) (room number p : ℕ) : Type 0 where
-  pub applies : Reason file room number p
-  pub none-before : (n q : ℕ) → n < number → ¬ Reason file room n q

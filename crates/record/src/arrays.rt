@@ -1,33 +1,12 @@
 // Tests 4 to 8: the table, the goal's and the statements' numbers, and the room for the signers.
 ghost use mathlib.Core.Path.{_≡_};
-ghost use lib.Dec.{leb};
-ghost use Rattle.record.specs.Answer.{outside};
 ghost use Rattle.record.specs.Parts.{arrayTests, SizedTable};
+use file::numbers::first_outside;
+use file::numbers::is_outside;
 use signers::collect::signer_count;
 use table::check::Tested;
 use table::check::check_table;
 use table::place::Place;
-
-// Whether a number is F or more.
-fn is_outside(formulas: usize, n: u16) -> bool
-    ensures { λ r. ⌜ r ≡ leb formulas n ⌝ }
-{
-    formulas <= n as usize
-}
-
-// "7. A statement's number is F or more (place: the first such position)."
-fn first_outside(formulas: usize, numbers: &[u16]) -> Place
-    ensures { λ r. ⌜ r ≡ outside formulas (now (numbers .entry)) ⌝ }
-{
-    let mut i = 0;
-    while i < numbers.len() {
-        if is_outside(formulas, numbers[i]) {
-            return Place::At(i);
-        }
-        i += 1;
-    }
-    Place::Nowhere
-}
 
 // 4 to 8, over a table of a size that 2 allows.
 pub(crate) fn check_arrays(

@@ -1,10 +1,9 @@
 // Tests 1 to 3: the sizes and the length of a record.
 ghost use mathlib.Core.Path.{_≡_};
-ghost use lib.Dec.{leb};
-ghost use Rattle.table.specs.Choice.{both};
 ghost use Rattle.record.specs.Answer.{inRange};
 ghost use Rattle.record.specs.Layout.{bytes};
 ghost use Rattle.record.specs.Parts.{layoutTests, sizesOf};
+use file::numbers::between;
 use file::words::word_at;
 use table::check::Tested;
 use table::limits::MOST_FORMULAS;
@@ -27,13 +26,6 @@ pub(crate) fn read_sizes(file: &[u8]) -> Sizes
         statements: word_at(file, 1),
         steps: word_at(file, 2),
     }
-}
-
-// Whether a number is from least to most.
-fn between(least: usize, n: usize, most: usize) -> bool
-    ensures { λ r. ⌜ r ≡ both (leb least n) (leb n most) ⌝ }
-{
-    least <= n && n <= most
 }
 
 fn in_range(s: Sizes) -> bool
@@ -59,24 +51,6 @@ fn length_of(s: Sizes) -> usize
 pub(crate) fn check_layout(file: &[u8]) -> Tested
     ensures { λ r. ⌜ r ≡ layoutTests (now (file .entry)) ⌝ }
 {
-    if file.len() < 8 {
-        return Tested::Refused {
-            number: 1,
-            place: 0,
-        };
-    }
     let s = read_sizes(file);
-    if !in_range(s) {
-        return Tested::Refused {
-            number: 2,
-            place: 0,
-        };
-    }
-    if file.len() != length_of(s) {
-        return Tested::Refused {
-            number: 3,
-            place: 0,
-        };
-    }
-    Tested::Passed
+    file::layout::check_layout(file, in_range(s), length_of(s))
 }

@@ -1,4 +1,4 @@
--- `record::arrays::first_outside` meets its contract. The loop's invariant: no number before i is F or more. Assumes nothing.
+-- `file::numbers::first_outside` meets its contract. The loop's invariant: no number before i is F or more. Assumes nothing.
 use Prim.Native.Nat.{_≤_, _-_}
 use native.Mathlib.Omega.{arith}
 use mathlib.Core.Path.{_≡_, refl, sym, _∙_}
@@ -8,9 +8,9 @@ use borrow.Author.Needs.{needs}
 use Rattle.table.specs.declared.place.Place.the-variants.{Nowhere}
 use Rattle.table.specs.First.{first}
 use Rattle.table.proofs.First.{first-none-more}
-use Rattle.record.proofs.ArrayTests.{outside-at, outside-nowhere}
-use Rattle.record.proofs.arrays.first_outside.Statement.{statement}
-use Rattle.record.proofs.arrays.first_outside.Tie as tie
+use Rattle.file.proofs.Outside.{outside-at, outside-nowhere}
+use Rattle.file.proofs.numbers.first_outside.Statement.{statement}
+use Rattle.file.proofs.numbers.first_outside.Tie as tie
 
 abbrev Inv-loop : tie.InvT-loop
 Inv-loop formulas numbers i₀ i = (i ≤ length numbers) × (first (λ j. leb formulas (getD numbers j 0)) i ≡ Nowhere)

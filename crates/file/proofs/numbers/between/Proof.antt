@@ -1,7 +1,7 @@
--- `record::layout::between` meets its contract: the second bound is asked only if the first holds. Assumes nothing.
+-- `file::numbers::between` meets its contract: the second bound is asked only if the first holds. Assumes nothing.
 use borrow.Author.Tests.{le-leb, lt-leb}
-use Rattle.record.proofs.layout.between.Statement.{statement}
-use Rattle.record.proofs.layout.between.Tie as tie
+use Rattle.file.proofs.numbers.between.Statement.{statement}
+use Rattle.file.proofs.numbers.between.Tie as tie
 
 returns : tie.Need-returns
 returns c = simp (le-leb _ _ (c .if1 .taken))
