@@ -1,0 +1,48 @@
+-- What is promised of the answers: demand 3 for exchange files. Each is proved in proofs/ under its name in small letters. Assumes nothing.
+use Prim.Native.Nat.{ℕ, suc, _+_, _≤_, _<_}
+use mathlib.Core.Path.{_≡_}
+use mathlib.Core.Logic.{_↔_}
+use mathlib.Core.List.{List}
+use lib.ListN.{length, take}
+use Rattle.logic.specs.Figure1.{EqualInForce}
+use Rattle.table.specs.Limits.{mostSteps}
+use Rattle.file.specs.Refusals.{FirstReason}
+use Rattle.exchange.specs.declared.verdict.Verdict.{Verdict}
+use Rattle.exchange.specs.declared.verdict.Verdict.the-variants.{Equal, Refused}
+use Rattle.exchange.specs.Layout.{firstCount, secondCount, stepCount, mostBytes, firstStatements, secondStatements}
+use Rattle.exchange.specs.Answer.{exchangeAnswer}
+use Rattle.exchange.specs.Proofs.{Keeps, CarriesAll}
+use Rattle.exchange.specs.Reasons.{Reason}
+
+-- "The exchange check says equal exactly for the exchange files within the limits that carry all these proofs,
+abbrev pub EqualExactly : Type 0
+EqualExactly = (file : List ℕ) → exchangeAnswer file ≡ Equal ↔ (Keeps file × CarriesAll file)
+
+-- and so only for lists equal in force." (demand 3)
+abbrev pub EqualOnlyInForce : Type 0
+EqualOnlyInForce = (file : List ℕ) → exchangeAnswer file ≡ Equal → EqualInForce (firstStatements file) (secondStatements file)
+
+-- Every other file, of any bytes and length, is refused by the first reason that applies, with its place.
+abbrev pub RefusedExactly : Type 0
+RefusedExactly = (file : List ℕ) (number p : ℕ) → exchangeAnswer file ≡ Refused number p ↔ FirstReason (Reason file) number p
+
+-- "Two empty lists with N = 0 are equal." (01)
+abbrev pub EmptyListsEqual : Type 0
+EmptyListsEqual =
+    (file : List ℕ) → Keeps file → firstCount file ≡ 0 → secondCount file ≡ 0 → stepCount file ≡ 0 → exchangeAnswer file ≡ Equal
+
+-- "one for every position, so a statement that stands twice is proved twice" (01): a file with fewer steps than positions is never found equal.
+abbrev pub ProvedAtEachPosition : Type 0
+ProvedAtEachPosition = (file : List ℕ) → exchangeAnswer file ≡ Equal → firstCount file + secondCount file ≤ stepCount file
+
+-- How large a refusal can be.
+abbrev pub Small : Verdict → Type 0
+Small Equal = Unit
+Small (Refused number p) = (1 ≤ number) × (number ≤ 15) × (p ≤ mostSteps)
+
+abbrev pub AnswersSmall : Type 0
+AnswersSmall = (file : List ℕ) → Small (exchangeAnswer file)
+
+-- A file longer than the longest exchange file has the answer of its first bytes, one more than the longest has.
+abbrev pub LongerFile : Type 0
+LongerFile = (file : List ℕ) → mostBytes < length file → exchangeAnswer file ≡ exchangeAnswer (take (suc mostBytes) file)

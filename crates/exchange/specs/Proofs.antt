@@ -1,0 +1,64 @@
+-- "An exchange file carries all these proofs when its step words are, word for word, those of derivations for every position in the order
+-- above, with nothing between them and nothing after. It is within the limits when 1 to 5 and 7, read for its layout, don't apply and no step
+-- of these proofs is deeper than 10 allows." (01) Assumes nothing.
+use Prim.Native.Nat.{ℕ, _≤_, _<_}
+use mathlib.Core.Path.{_≡_}
+use mathlib.Core.List.{List, [], _∷_, _++_}
+use lib.ListN.{length}
+use Rattle.logic.specs.Hypotheses.{_∈_}
+use Rattle.logic.specs.Judgment.{truth}
+use Rattle.logic.specs.Depth.{stepDepths}
+use Rattle.logic.specs.Figure1.{Derivation}
+use Rattle.table.specs.declared.entry.Entry.{Entry}
+use Rattle.table.specs.Limits.{mostFormulas, mostStatements, mostSteps, mostDepth}
+use Rattle.table.specs.Laws.{Ordered}
+use Rattle.table.specs.Spelled.{spell, spellAll}
+use Rattle.table.specs.Number.{number}
+use Rattle.steps.specs.Words as Derived
+use Rattle.file.specs.Tests.{NoneRepeated}
+use Rattle.exchange.specs.Layout.{formulas, firstCount, secondCount, stepCount, heads, seconds, firstList, secondList, steps, size, table}
+
+-- "F formulas (1 to 4,096)"; "here N may be 0 to 16,384 and each list 0 to 256"
+pub record InRange (file : List ℕ) : Type 0 where
+  pub some-formulas : 1 ≤ formulas file
+  pub few-formulas : formulas file ≤ mostFormulas
+  pub few-first : firstCount file ≤ mostStatements
+  pub few-second : secondCount file ≤ mostStatements
+  pub few-steps : stepCount file ≤ mostSteps
+
+-- The sizes are in their ranges, and the length is theirs: 1 to 3 don't apply.
+pub record Sized (file : List ℕ) : Type 0 where
+  pub in-range : InRange file
+  pub length-is : length file ≡ size file
+
+-- 1 to 5 and 7 don't apply
+pub record Keeps (file : List ℕ) : Type 0 where
+  pub sized : Sized file
+  pub ordered : Ordered (table file)
+  pub none-repeated : NoneRepeated (heads file) (seconds file)
+  pub first-in : (n : ℕ) → n ∈ firstList file → n < formulas file
+  pub second-in : (n : ℕ) → n ∈ secondList file → n < formulas file
+
+-- A proof of what a number spells from what these numbers spell: a derivation in Figure 1, and no step of it is deeper than 512.
+pub record Proof (es : List Entry) (statements : List ℕ) (goal : ℕ) : Type 0 where
+  pub derivation : Derivation (spellAll es statements) (truth (spell es goal))
+  pub within : (d : ℕ) → d ∈ stepDepths 1 derivation → d ≤ mostDepth
+
+-- a proof for every position of a list, in order
+abbrev pub ProofOfEach : List Entry → List ℕ → List ℕ → Type 0
+ProofOfEach es statements [] = Unit
+ProofOfEach es statements (n ∷ ns) = Proof es statements n × ProofOfEach es statements ns
+
+-- their words, one after the other
+abbrev pub wordsOfEach : (es : List Entry) (statements goals : List ℕ) → ProofOfEach es statements goals → List ℕ
+wordsOfEach es statements [] none = []
+wordsOfEach es statements (n ∷ ns) (p, rest) = Derived.words (number es) (p .derivation) ++ wordsOfEach es statements ns rest
+
+-- "a proof of each statement of the second list from the first, in order, then of each of the first from the second": the step words are theirs
+pub record CarriesAll (file : List ℕ) : Type 0 where
+  pub second-from-first : ProofOfEach (table file) (firstList file) (secondList file)
+  pub first-from-second : ProofOfEach (table file) (secondList file) (firstList file)
+  pub words :
+      steps file
+      ≡ wordsOfEach (table file) (firstList file) (secondList file) second-from-first
+      ++ wordsOfEach (table file) (secondList file) (firstList file) first-from-second
