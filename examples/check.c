@@ -1,13 +1,14 @@
 /*
- * Checks the record in the file that is named, and prints the line of document 01. The exit status is 0 for granted, 1 for refused, and 2 where
- * there is no verdict, because the file cannot be read or the line not written. At the top of the repository:
+ * Checks the record or the exchange file that is named, and prints the line of document 01. The exit status is 0 for granted and equal, 1 for
+ * refused, and 2 where there is no verdict, because the file cannot be read or the line not written. At the top of the repository:
  *
  *     rt staticlib ffi
  *     cc -Iinclude examples/check.c target/staticlib/libffi.a -o target/check
- *     target/check samples/A.record
+ *     target/check record samples/A.record
  */
 #include <stdio.h>
 #include <stdlib.h>
+#include <string.h>
 
 #include "wethrynda.h"
 
@@ -42,27 +43,52 @@ static uint8_t *read_whole(const char *name, size_t *length) {
     return bytes;
 }
 
-int main(int argc, char **argv) {
-    if (argc != 2) {
-        fprintf(stderr, "usage: check FILE\n");
-        return 2;
-    }
-    size_t length;
-    uint8_t *file = read_whole(argv[1], &length);
-    if (file == NULL) {
-        return 2;
-    }
-    uint16_t signers[WETHRYNDA_MOST_SIGNERS] = {0};
-    uint64_t answer = wethrynda_check_record(file, length, signers, WETHRYNDA_MOST_SIGNERS);
-    free(file);
+/* Each of these prints the line of an answer, and gives the exit status for it. */
+static int print_refused(uint64_t answer) {
+    printf("refused %u place %u\n", (unsigned)wethrynda_number(answer), (unsigned)wethrynda_place(answer));
+    return 1;
+}
+
+static int print_record(uint64_t answer, const uint16_t *signers) {
     if (!wethrynda_is_granted(answer)) {
-        printf("refused %u place %u\n", (unsigned)wethrynda_number(answer), (unsigned)wethrynda_place(answer));
-        return fflush(stdout) == 0 ? 1 : 2;
+        return print_refused(answer);
     }
     printf("granted %u", (unsigned)wethrynda_count(answer));
     for (uint32_t i = 0; i < wethrynda_count(answer); i++) {
         printf(" %u", (unsigned)signers[i]);
     }
     printf("\n");
-    return fflush(stdout) == 0 ? 0 : 2;
+    return 0;
+}
+
+static int print_exchange(uint64_t answer) {
+    if (!wethrynda_is_equal(answer)) {
+        return print_refused(answer);
+    }
+    printf("equal\n");
+    return 0;
+}
+
+int main(int argc, char **argv) {
+    int is_record = argc == 3 && strcmp(argv[1], "record") == 0;
+    int is_exchange = argc == 3 && strcmp(argv[1], "exchange") == 0;
+    if (!is_record && !is_exchange) {
+        fprintf(stderr, "usage: check record FILE, or check exchange FILE\n");
+        return 2;
+    }
+    size_t length;
+    uint8_t *file = read_whole(argv[2], &length);
+    if (file == NULL) {
+        return 2;
+    }
+    int status;
+    if (is_record) {
+        uint16_t signers[WETHRYNDA_MOST_SIGNERS] = {0};
+        uint64_t answer = wethrynda_check_record(file, length, signers, WETHRYNDA_MOST_SIGNERS);
+        status = print_record(answer, signers);
+    } else {
+        status = print_exchange(wethrynda_check_exchange(file, length));
+    }
+    free(file);
+    return fflush(stdout) == 0 ? status : 2;
 }

@@ -1,9 +1,9 @@
 /*
- * Wethrynda: the check of a release record, for C. The library is target/staticlib/libffi.a, for x86-64 Linux; `rt staticlib ffi` at the top of
- * the repository makes it. Link it by its path, as examples/check.c is linked: another library has the name `ffi` too.
+ * Wethrynda: the checks of release records and of exchange files, for C. The library is target/staticlib/libffi.a, for x86-64 Linux; `rt staticlib
+ * ffi` at the top of the repository makes it. Link it by its path, as examples/check.c is linked: another library has the name `ffi` too.
  *
- * The function is written and proved in Rattle. Its contract is in crates/ffi/src/lib.rt and decides where a comment here is unclear. Nothing
- * checks this declaration against it.
+ * The functions are written and proved in Rattle. Their contracts are in crates/ffi/src/lib.rt and decide where a comment here is unclear. Nothing
+ * checks these declarations against them.
  */
 #ifndef WETHRYNDA_H
 #define WETHRYNDA_H
@@ -36,16 +36,37 @@ extern "C" {
  */
 uint64_t wethrynda_check_record(const uint8_t *file, size_t file_length, uint16_t *signers, size_t signers_length);
 
+/*
+ * Checks the exchange file in the bytes file[0] .. file[file_length - 1], any bytes of any number, and answers one number, which the functions
+ * below take apart. It makes every test itself and always answers: it allocates nothing, reads and writes no file, and keeps nothing from call to
+ * call. What is lent, the file, is not changed.
+ *
+ * Equal: the file proves each statement of the second list from the first list, and each of the first from the second.
+ *
+ * What the caller sees to, for nothing can test it:
+ * - The pointer is not null, even where the length is 0. A pointer to any object will do there.
+ * - The file has `file_length` bytes that may be read, and no other thread changes them until the call is over. (Calls may run at the same time,
+ *   on the same file too.)
+ * - The thread has about 600 KB of stack left, as for a record.
+ */
+uint64_t wethrynda_check_exchange(const uint8_t *file, size_t file_length);
+
 /* Whether the record is granted; else it is refused. */
 static inline bool wethrynda_is_granted(uint64_t answer) { return answer >> 32 == 0; }
 
 /* Of a granted record: how many signers it has. */
 static inline uint32_t wethrynda_count(uint64_t answer) { return (uint32_t)(answer & 0xffffffffu); }
 
-/* Of a refused record: the refusal's number, 1 to 15, which says why (samples/README.md has the list). 0 if it is granted. */
+/* Whether the two lists of the exchange file are equal; else it is refused. */
+static inline bool wethrynda_is_equal(uint64_t answer) { return answer >> 32 == 0; }
+
+/* Of a refused record or exchange file: the refusal's number, 1 to 15, which says why (samples/README.md has the list). 0 if it is not refused. */
 static inline uint32_t wethrynda_number(uint64_t answer) { return (uint32_t)(answer >> 32); }
 
-/* Of a refused record: the place, counted from 0: the entry, the statement or the step where the reason was found, or 0. */
+/*
+ * Of a refused record or exchange file: the place, counted from 0: the entry, the statement or the step where the reason was found, or 0. In an
+ * exchange file statements are counted through the first list and then the second, and steps through all proofs.
+ */
 static inline uint32_t wethrynda_place(uint64_t answer) { return (uint32_t)(answer & 0xffffffffu); }
 
 #ifdef __cplusplus

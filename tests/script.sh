@@ -1,10 +1,10 @@
 #!/bin/sh
-# Tests from outside, on files made here: the program check_record, then ./wethrynda, then ./wethrynda alone with a toolchain and a checker that
-# only pretend. Each check that fails says what was expected and what came, and then the status is 1.
+# Tests from outside, on files made here and on the samples: the programs check_record and check_exchange, then ./wethrynda, then ./wethrynda alone
+# with a toolchain and a checker that only pretend. Each check that fails says what was expected and what came, and then the status is 1.
 set -u
 
 top=$(CDPATH='' cd -- "$(dirname -- "$0")/.." && pwd -P) || exit 1
-program=$top/target/bin/check_record
+programs=$top/target/bin
 script=$top/wethrynda
 room=$(mktemp -d) || exit 1
 trap 'rm -rf "$room"' EXIT
@@ -30,15 +30,15 @@ complain() { # WHAT EXPECTED GOT
 # Runs a command and compares its status and the whole of its standard output: the line, or nothing where it is empty. Its standard error has to
 # have the text, or to be empty where that is. (Failures are kept in a file, for checks at the end of a pipe.)
 check() { # WHAT STATUS LINE TEXT COMMAND...
-    what=$1 status=$2 line=$3 text=$4
+    what=$1 status=$2 wanted=$3 text=$4
     shift 4
     echo "$what" >>"$room/checked"
     "$@" >"$room/out" 2>"$room/err"
     ended=$?
     [ "$ended" -eq "$status" ] || complain "$what" "status $status" "status $ended"
-    [ -z "$line" ] || line=$line$newline
-    printf %s "$line" >"$room/line"
-    cmp -s "$room/line" "$room/out" || complain "$what" "standard output: $line" "$(cat "$room/out")"
+    [ -z "$wanted" ] || wanted=$wanted$newline
+    printf %s "$wanted" >"$room/wanted"
+    cmp -s "$room/wanted" "$room/out" || complain "$what" "standard output: $wanted" "$(cat "$room/out")"
     if [ -z "$text" ]; then
         [ ! -s "$room/err" ] || complain "$what" 'empty standard error' "$(cat "$room/err")"
     else
@@ -51,7 +51,11 @@ newline='
 # Document 01's samples A and C, and the longest record: all words after the sizes are 0, so entry 1 is entry 0 again.
 words 2 1 4 1 0 20487 0 0 1 40960 45057 4096 0 >"$room/A"
 words 3 1 1 0 0 20487 20488 0 0 0 1 45057 >"$room/C"
-{ words 4096 256 16384 0 && zeros 49664; } >"$room/longest"
+{ words 4096 256 16384 0 && zeros 49664; } >"$room/longest-record"
+# Document 01's samples K and L, and the longest exchange file, with zeros too.
+words 3 1 2 7 0 1 12288 0 0 1 2 0 1 24578 0 24578 1 20480 0 1 >"$room/K"
+words 1 0 1 1 0 0 0 0 >"$room/L"
+{ words 4096 256 256 16384 && zeros 50176; } >"$room/longest-exchange"
 : >"$room/empty"
 # A's proof with 256 papers, of the principals 3840 to 4095: as many signers as can be, and the longest line.
 names=$(i=3840 && while [ $i -le 4095 ]; do echo $i && i=$((i + 1)); done)
@@ -64,63 +68,72 @@ names=$(i=3840 && while [ $i -le 4095 ]; do echo $i && i=$((i + 1)); done)
 } >"$room/signed"
 # shellcheck disable=SC2086,SC2116 # the numbers on one line
 all="granted 256 $(echo $names)"
-head=$(words 2 1 4 | wc -c)
-for name in A longest; do
+for name in A K longest-record longest-exchange; do
     { cat "$room/$name" && zeros 1; } >"$room/$name+1"
     { cat "$room/$name" && zeros 100000; } >"$room/$name+100000"
 done
 
-# The first call may have to build, and says so; from then on the checker is there.
-"$script" record "$room/A" >/dev/null 2>"$room/err" || complain 'first call' 'status 0' "$(cat "$room/err")"
+# The first call of each may have to build, and says so; from then on the checkers are there.
+"$script" record "$room/A" >/dev/null 2>"$room/err" || complain 'first call, record' 'status 0' "$(cat "$room/err")"
+"$script" exchange "$room/K" >/dev/null 2>"$room/err" || complain 'first call, exchange' 'status 0' "$(cat "$room/err")"
 
-check 'program: A' 0 'granted 1 7' '' "$program" <"$room/A"
-check 'program: C' 0 'refused 14 place 0' '' "$program" <"$room/C"
-check 'program: empty' 0 'refused 1 place 0' '' "$program" <"$room/empty"
-check 'program: A and a byte' 0 'refused 3 place 0' '' "$program" <"$room/A+1"
-check 'program: A and 100,000 bytes' 0 'refused 3 place 0' '' "$program" <"$room/A+100000"
-check 'program: the longest record' 0 'refused 5 place 1' '' "$program" <"$room/longest"
-check 'program: the longest record and a byte' 0 'refused 3 place 0' '' "$program" <"$room/longest+1"
-check 'program: the longest record and 100,000 bytes' 0 'refused 3 place 0' '' "$program" <"$room/longest+100000"
-check 'program: 256 signers' 0 "$all" '' "$program" <"$room/signed"
-# in pieces, cut within the sizes and within a word
-{
-    dd if="$room/A" bs=1 count="$head" 2>/dev/null
-    sleep 1
-    dd if="$room/A" bs=1 skip="$head" count=9 2>/dev/null
-    sleep 1
-    dd if="$room/A" bs=1 skip=$((head + 9)) 2>/dev/null
-} | check 'program: A in pieces' 0 'granted 1 7' '' "$program"
-{ cat "$room/longest" && sleep 1 && zeros 1; } | check 'program: a byte after a pause' 0 'refused 3 place 0' '' "$program"
-check 'program: closed input' 0 '' "check_record: standard input can't be read" "$program" <&-
-check 'program: a folder' 0 '' "check_record: standard input can't be read" "$program" <"$room"
-if [ -c /dev/full ]; then
-    # shellcheck disable=SC2016 # for the inner shell
-    check 'program: full output' 0 '' "check_record: the line can't be written" sh -c '"$1" >/dev/full' sh "$program" <"$room/A"
-fi
+# The same for each kind of file: a right one and its line, a refused one with its line and what is said of it, and the longest.
+both() { # KIND RIGHT LINE REFUSED LINE TEXT
+    program=$programs/check_$1 longest=$room/longest-$1
+    check "program: $2" 0 "$3" '' "$program" <"$room/$2"
+    check "program: $4" 0 "$5" '' "$program" <"$room/$4"
+    check "program: no bytes, $1" 0 'refused 1 place 0' '' "$program" <"$room/empty"
+    check "program: $2 and a byte" 0 'refused 3 place 0' '' "$program" <"$room/$2+1"
+    check "program: $2 and 100,000 bytes" 0 'refused 3 place 0' '' "$program" <"$room/$2+100000"
+    check "program: the longest $1" 0 'refused 5 place 1' '' "$program" <"$longest"
+    check "program: the longest $1 and a byte" 0 'refused 3 place 0' '' "$program" <"$longest+1"
+    check "program: the longest $1 and 100,000 bytes" 0 'refused 3 place 0' '' "$program" <"$longest+100000"
+    # in pieces, cut within the sizes and within a word
+    {
+        dd if="$room/$2" bs=1 count=6 2>/dev/null
+        sleep 1
+        dd if="$room/$2" bs=1 skip=6 count=9 2>/dev/null
+        sleep 1
+        dd if="$room/$2" bs=1 skip=15 2>/dev/null
+    } | check "program: $2 in pieces" 0 "$3" '' "$program"
+    { cat "$longest" && sleep 1 && zeros 1; } | check "program: a byte after a pause, $1" 0 'refused 3 place 0' '' "$program"
+    check "program: closed input, $1" 0 '' "check_$1: standard input can't be read" "$program" <&-
+    check "program: a folder, $1" 0 '' "check_$1: standard input can't be read" "$program" <"$room"
+    if [ -c /dev/full ]; then
+        # shellcheck disable=SC2016 # for the inner shell
+        check "program: full output, $1" 0 '' "check_$1: the line can't be written" sh -c '"$1" >/dev/full' sh "$program" <"$room/$2"
+    fi
 
-check 'script: A' 0 'granted 1 7' '' "$script" record "$room/A"
-check 'script: C' 1 'refused 14 place 0' 'affirmation by that same principal' "$script" record "$room/C"
-check 'script: empty' 1 'refused 1 place 0' 'fewer than 8 bytes' "$script" record "$room/empty"
-check 'script: A and a byte' 1 'refused 3 place 0' 'longer or shorter' "$script" record "$room/A+1"
-check 'script: the longest record' 1 'refused 5 place 1' 'Formula 1' "$script" record "$room/longest"
+    check "script: $2" 0 "$3" '' "$script" "$1" "$room/$2"
+    check "script: $4" 1 "$5" "$6" "$script" "$1" "$room/$4"
+    check "script: no bytes, $1" 1 'refused 1 place 0' 'fewer than 8 bytes' "$script" "$1" "$room/empty"
+    check "script: $2 and a byte" 1 'refused 3 place 0' 'longer or shorter' "$script" "$1" "$room/$2+1"
+    check "script: the longest $1" 1 'refused 5 place 1' 'Formula 1' "$script" "$1" "$longest"
+    check "script: standard input, $1" 0 "$3" '' "$script" "$1" - <"$room/$2"
+    check "script: no such file, $1" 2 '' 'there is no file' "$script" "$1" "$room/missing"
+    check "script: a folder, $1" 2 '' 'is a folder' "$script" "$1" "$room"
+    check "script: closed input, $1" 2 '' "standard input can't be read" "$script" "$1" - <&-
+    check "script: a folder as input, $1" 2 '' "standard input can't be read" "$script" "$1" - <"$room"
+    check "script: no file named, $1" 2 '' 'usage:' "$script" "$1"
+    check "script: two files, $1" 2 '' 'usage:' "$script" "$1" "$room/$2" "$room/$2"
+    if [ "$(id -u)" -ne 0 ]; then
+        cp "$room/$2" "$room/closed" && chmod 000 "$room/closed"
+        check "script: unreadable, $1" 2 '' "can't be read" "$script" "$1" "$room/closed"
+        rm -f "$room/closed"
+    fi
+    if [ -c /dev/full ]; then
+        # shellcheck disable=SC2016 # for the inner shell
+        check "script: full output, $1" 2 '' ' ' sh -c '"$1" "$2" "$3" >/dev/full' sh "$script" "$1" "$room/$2"
+    fi
+}
+both record A 'granted 1 7' C 'refused 14 place 0' 'affirmation by that same principal'
+both exchange K 'equal' L 'refused 12 place 0' "isn't among the hypotheses there"
+check 'program: 256 signers' 0 "$all" '' "$programs/check_record" <"$room/signed"
 check 'script: 256 signers' 0 "$all" '' "$script" record "$room/signed"
-check 'script: standard input' 0 'granted 1 7' '' "$script" record - <"$room/A"
-check 'script: no such file' 2 '' 'there is no file' "$script" record "$room/missing"
-check 'script: a folder' 2 '' 'is a folder' "$script" record "$room"
-check 'script: closed input' 2 '' "standard input can't be read" "$script" record - <&-
-check 'script: a folder as input' 2 '' "standard input can't be read" "$script" record - <"$room"
 check 'script: no words' 2 '' 'usage:' "$script"
-check 'script: no file named' 2 '' 'usage:' "$script" record
-check 'script: two files' 2 '' 'usage:' "$script" record "$room/A" "$room/A"
 check 'script: another word' 2 '' 'usage:' "$script" recrd "$room/A"
-if [ "$(id -u)" -ne 0 ]; then
-    cp "$room/A" "$room/closed" && chmod 000 "$room/closed"
-    check 'script: unreadable' 2 '' "can't be read" "$script" record "$room/closed"
-fi
-if [ -c /dev/full ]; then
-    # shellcheck disable=SC2016 # for the inner shell
-    check 'script: full output' 2 '' ' ' sh -c '"$1" record "$2" >/dev/full' sh "$script" "$room/A"
-fi
+check 'script: the name of a program' 2 '' 'usage:' "$script" check_record "$room/A"
+
 # from another folder, by a name with blanks, by a link to the script, by its name alone
 mkdir "$room/a folder" && cp "$room/A" "$room/a folder/-a record"
 ln -s "$script" "$room/a folder/link"
@@ -129,6 +142,15 @@ check 'script: from another folder' 0 'granted 1 7' '' "$script" record '-a reco
 check 'script: by a link' 0 'granted 1 7' '' ./link record '../a folder/-a record'
 cd "$top" || exit 1
 check 'script: by sh' 0 'granted 1 7' '' sh wethrynda record "$room/A"
+check 'script: by sh, exchange' 0 'equal' '' sh wethrynda exchange "$room/K"
+
+# All samples, where their pages say that they are, with the lines that are stored for them. The kind of a file is how its name ends.
+while read -r name line; do
+    case $line in
+    refused*) check "sample: $name" 1 "$line" '.' "$script" "${name##*.}" "samples/$name" ;;
+    *) check "sample: $name" 0 "$line" '' "$script" "${name##*.}" "samples/$name" ;;
+    esac </dev/null
+done <crates/samples/stdout
 
 # The script alone: a repository with a toolchain that counts its calls, and a checker that prints what it is told.
 mkdir -p "$room/a repository/crates/check_record/src" "$room/pretended" "$room/no rt"
@@ -150,7 +172,7 @@ cat >"$room/pretended/rt" <<'END'
 echo "$*" >>"$told.calls"
 echo noise
 echo noise >&2
-mkdir -p target/bin && cp "$told.checker" target/bin/check_record
+mkdir -p target/bin && cp "$told.checker" "target/bin/$2"
 exit "$(cat "$told.build")"
 END
 chmod +x "$told.checker" "$room/pretended/rt"
@@ -161,41 +183,82 @@ tell() { # STATUS-OF-THE-BUILD STATUS-OF-THE-CHECKER LINE
     echo "$3" >"$told.line"
 }
 
-pretend() { # WHAT STATUS LINE TEXT
-    check "script alone: $1" "$2" "$3" "$4" env PATH="$room/pretended:$PATH" "$script" record "$room/A"
+pretend() { # KIND WHAT STATUS LINE TEXT
+    check "script alone, $1: $2" "$3" "$4" "$5" env PATH="$room/pretended:$PATH" "$script" "$1" "$room/A"
 }
 
+built() { # KIND LINE
+    tell 0 0 "$2"
+    check "script alone, $1: no toolchain" 2 '' 'toolchain' env PATH="$room/no rt" "$script" "$1" "$room/A"
+    tell 1 0 "$2"
+    pretend "$1" 'a build that fails' 2 '' 'could not be built'
+    pretend "$1" 'what a failed build left' 2 '' 'could not be built'
+    tell 0 0 "$2"
+    pretend "$1" 'a build' 0 "$2" 'building the checker'
+    pretend "$1" 'no build' 0 "$2" ''
+    check "script alone, $1: no build and no toolchain" 0 "$2" '' env PATH="$room/no rt" "$script" "$1" "$room/A"
+    sleep 1
+    touch "$source"
+    pretend "$1" 'a source that is younger' 0 "$2" 'building the checker'
+    rm "$room/a repository/target/bin/check_$1"
+    pretend "$1" 'a program that is missing' 0 "$2" 'building the checker'
+    calls=$(grep -cx "check check_$1" "$told.calls")
+    [ "$calls" -eq 5 ] || complain "script alone, $1: calls of rt" 5 "$calls"
+    tell 0 3 "$2"
+    pretend "$1" 'a checker that fails' 2 '' 'wethrynda:'
+}
+built record 'granted 1 7'
+built exchange 'equal'
+# the younger source was not built into the first program
 tell 0 0 'granted 1 7'
-check 'script alone: no toolchain' 2 '' 'toolchain' env PATH="$room/no rt" "$script" record "$room/A"
-tell 1 0 'granted 1 7'
-pretend 'a build that fails' 2 '' 'could not be built'
-pretend 'what a failed build left' 2 '' 'could not be built'
-tell 0 0 'granted 1 7'
-pretend 'a build' 0 'granted 1 7' 'building the checker'
-pretend 'no build' 0 'granted 1 7' ''
-check 'script alone: no build and no toolchain' 0 'granted 1 7' '' env PATH="$room/no rt" "$script" record "$room/A"
-sleep 1
-touch "$source"
-pretend 'a source that is younger' 0 'granted 1 7' 'building the checker'
-rm "$room/a repository/target/bin/check_record"
-pretend 'a program that is missing' 0 'granted 1 7' 'building the checker'
-calls=$(grep -cx 'check check_record' "$told.calls")
-[ "$calls" -eq 5 ] || complain 'script alone: calls of rt' 5 "$calls"
-for number in 1 2 3 4 5 6 7 8 9 10 11 12 13 14 15; do
-    tell 0 0 "refused $number place 3"
-    pretend "reason $number" 1 "refused $number place 3" '.'
+pretend record 'a source that is younger, again' 0 'granted 1 7' 'building the checker'
+
+known() { # KIND STATUS LINE
+    tell 0 0 "$3"
+    case $2 in
+    0) pretend "$1" "the line '$3'" 0 "$3" '' ;;
+    1) pretend "$1" "the line '$3'" 1 "$3" '.' ;;
+    2) pretend "$1" "the line '$3'" 2 '' 'wethrynda:' ;;
+    esac
+}
+for number in 1 2 3 4 5 7 9 10 11 12 13 14 15; do
+    known record 1 "refused $number place 3"
+    known exchange 1 "refused $number place 3"
 done
-for line in 'granted 0' 'granted 2 7 8'; do
-    tell 0 0 "$line"
-    pretend "the line '$line'" 0 "$line" ''
+known record 1 'refused 6 place 0'
+known record 1 'refused 8 place 0'
+known record 0 'granted 0'
+known record 0 'granted 2 7 8'
+known exchange 0 'equal'
+known exchange 1 'refused 9 place 16384'
+# what neither of them prints
+for line in 'refused 0 place 0' 'refused 16 place 0' 'refused' 'refused 14' 'refused 14 place' 'refused 14 place x' 'refused 14 place 03' 'refused 014 place 3' \
+    'refused 14 place 3 4' 'refused 14 place -3' 'refused 14 3' 'refused  14 place 3' 'refused 14 place 3 ' ' refused 14 place 3' 'Refused 14 place 3' 'place 3' \
+    "refused 3 place 0${newline}granted 1 7" "refused 3 place 0${newline}equal" 'grants' 'granted' 'granted x' 'granted 5 7' 'granted 1 7 8' 'granted 01 7' 'granted 1  7' \
+    'granted 1 7 ' ' granted 1 7' 'granted 1 *' "granted 1 7${newline}granted 1 7" 'equal 0' 'equal 1 7' 'equal equal' 'equals' 'Equal' ' equal' 'equal ' \
+    "equal${newline}equal" "equal${newline}refused 3 place 0" 'equal refused 3 place 0' '7' '*' ''; do
+    known record 2 "$line"
+    known exchange 2 "$line"
 done
-for line in 'refused 16 place 0' 'refused' 'refused 14 place x' 'refused 14 place' "refused 3 place 0${newline}granted 1 7" 'grants' 'granted' 'granted x' \
-    'granted 5 7' 'granted 1 7 8' 'granted 1  7' 'granted 1 7 ' ' granted 1 7' 'granted 1 *' "granted 1 7${newline}granted 1 7" 'equal' ''; do
-    tell 0 0 "$line"
-    pretend "the line '$line'" 2 '' 'wethrynda:'
+# what only the other prints
+known record 2 'equal'
+for line in 'granted 0' 'granted 1 7' 'refused 6 place 0' 'refused 8 place 0'; do
+    known exchange 2 "$line"
 done
-tell 0 3 'granted 1 7'
-pretend 'a checker that fails' 2 '' 'wethrynda:'
+
+# What is said of an exchange file where it differs: both lists, all proofs, a proof that is due.
+said() { # KIND LINE TEXT
+    tell 0 0 "$2"
+    pretend "$1" "what is said of '$2'" 1 "$2" "$3"
+}
+said record 'refused 2 place 0' '0 to 256 statements, 1 to 16,384 steps'
+said exchange 'refused 2 place 0' 'each of the two lists, 0 to 16,384 steps'
+said exchange 'refused 7 place 3' 'Statement 3 (the first is 0, through the first list and then the second)'
+said exchange 'refused 9 place 95' 'a proof is still due'
+said record 'refused 12 place 4' 'Step 4 (the first is 0) names'
+said exchange 'refused 12 place 4' 'Step 4 (the first is 0, through all proofs) names'
+said record 'refused 15 place 7' 'The proof is complete before the steps end'
+said exchange 'refused 15 place 7' 'All proofs are complete before the steps end'
 
 if [ -s "$room/failed" ]; then
     printf 'tests/script.sh: %s of %s checks failed\n' "$(sort -u "$room/failed" | wc -l)" "$(wc -l <"$room/checked")" >&2

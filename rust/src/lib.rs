@@ -1,14 +1,24 @@
-//! The check of a release record, which is written and proved in Rattle, for Rust.
+//! The checks of release records and of exchange files, which are written and proved in Rattle, for Rust.
 //!
-//! The contract of the function behind [`check_record`] stands in `crates/ffi/src/lib.rt`; what a record is, and what each refusal means, stands in
-//! `crates/record/specs/`.
+//! The contracts of the functions behind [`check_record`] and [`check_exchange`] stand in `crates/ffi/src/lib.rt`; what a record and an exchange file
+//! are, and what each refusal means, stands in `crates/record/specs/` and `crates/exchange/specs/`.
 
-/// What the check answers.
+/// What the check of a record answers.
 #[derive(Clone, Copy, Debug, PartialEq, Eq)]
 pub enum Verdict {
     /// The record is granted, with so many signers.
     Granted(usize),
     /// The record is refused, by the first reason that applies: its number, from 1 to 15, and the place where it was found, counted from 0.
+    Refused { number: u8, place: usize },
+}
+
+/// What the check of an exchange file answers.
+#[derive(Clone, Copy, Debug, PartialEq, Eq)]
+pub enum Exchange {
+    /// The file proves each statement of its second list from its first list, and each of the first from the second.
+    Equal,
+    /// The file is refused, by the first reason that applies: its number, from 1 to 15 but not 6 or 8, and the place where it was found, counted
+    /// from 0, statements through the first list and then the second, steps through all proofs.
     Refused { number: u8, place: usize },
 }
 
@@ -18,6 +28,14 @@ pub const MOST_SIGNERS: usize = 256;
 // As `include/wethrynda.h` has it. Nothing checks this against the Rattle source: a slice is a pointer and then a length.
 extern "C" {
     fn wethrynda_check_record(file: *const u8, file_length: usize, signers: *mut u16, signers_length: usize) -> u64;
+    fn wethrynda_check_exchange(file: *const u8, file_length: usize) -> u64;
+}
+
+/// The number and the place of a refusal, which is number × 2^32 + place. Every other answer is less than 2^32. The contracts bound them: number by
+/// 15, place by 16,384.
+fn refusal(answer: u64) -> Option<(u8, usize)> {
+    let (high, low) = (answer >> 32, answer & 0xffff_ffff);
+    (high != 0).then_some((high as u8, low as usize))
 }
 
 /// Checks a record: any bytes, of any length.
@@ -31,11 +49,21 @@ pub fn check_record(file: &[u8], signers: &mut [u16]) -> Verdict {
     // other reference reaches the list while it is lent, so the two do not overlap. The function's contract asks nothing more, and it is proved to
     // stay inside what is lent.
     let answer = unsafe { wethrynda_check_record(file.as_ptr(), file.len(), signers.as_mut_ptr(), signers.len()) };
-    // A refusal is number × 2^32 + place, and a grant is its count. The contract bounds them: number by 15, place by 16,384, count by 256.
-    let (high, low) = (answer >> 32, answer & 0xffff_ffff);
-    if high == 0 {
-        Verdict::Granted(low as usize)
-    } else {
-        Verdict::Refused { number: high as u8, place: low as usize }
+    match refusal(answer) {
+        Some((number, place)) => Verdict::Refused { number, place },
+        // a grant is its count, 256 at most
+        None => Verdict::Granted(answer as usize),
+    }
+}
+
+/// Checks an exchange file: any bytes, of any length. Nothing is changed.
+///
+/// It needs about 600 KB of stack, which a thread has by default.
+pub fn check_exchange(file: &[u8]) -> Exchange {
+    // SAFETY: the pointer is that of a slice, so it is not null, even where the slice is empty, and the length is its own. The function's contract
+    // asks nothing more, and it is proved to stay inside what is lent.
+    match refusal(unsafe { wethrynda_check_exchange(file.as_ptr(), file.len()) }) {
+        Some((number, place)) => Exchange::Refused { number, place },
+        None => Exchange::Equal,
     }
 }

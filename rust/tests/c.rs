@@ -5,10 +5,15 @@ use common::{samples, top, Answer};
 use std::path::{Path, PathBuf};
 use std::process::{Command, Output};
 
-/// The example program, compiled as its first comment says.
-fn compiled() -> PathBuf {
+/// A place for a file that a test makes.
+fn made(name: &str) -> PathBuf {
+    Path::new(env!("CARGO_TARGET_TMPDIR")).join(name)
+}
+
+/// The example program, compiled as its first comment says. Each test has one of its own, since they run at the same time.
+fn compiled(name: &str) -> PathBuf {
     let top = top();
-    let program = Path::new(env!("CARGO_TARGET_TMPDIR")).join("check");
+    let program = made(name);
     let run = Command::new("cc")
         .args(["-std=c99", "-pedantic", "-Wall", "-Wextra", "-Werror", "-O2"])
         .arg("-I")
@@ -23,16 +28,22 @@ fn compiled() -> PathBuf {
     program
 }
 
-fn check(program: &Path, file: &Path) -> Output {
-    Command::new(program).arg(file).output().expect("the example program starts")
+fn check(program: &Path, kind: &str, file: &Path) -> Output {
+    Command::new(program).arg(kind).arg(file).output().expect("the example program starts")
+}
+
+/// No verdict: nothing on standard output, a word on standard error, and status 2.
+fn assert_no_verdict(run: Output, about: &str) {
+    assert_eq!((run.status.code(), run.stdout), (Some(2), vec![]), "{about}");
+    assert!(!run.stderr.is_empty(), "{about}");
 }
 
 #[test]
-fn example_program() {
-    let program = compiled();
-    let folder = top().join("samples");
-    for sample in samples() {
-        let run = check(&program, &folder.join(&sample.name));
+fn samples_of_both_kinds() {
+    let program = compiled("check_samples");
+    for sample in samples("") {
+        let (_, kind) = sample.name.rsplit_once('.').expect(&sample.name);
+        let run = check(&program, kind, &top().join("samples").join(&sample.name));
         let said = String::from_utf8(run.stdout).expect("text");
         let status = match sample.answer {
             Answer::Granted(mut signers) => {
@@ -43,6 +54,10 @@ fn example_program() {
                 assert_eq!(listed, signers, "{}", sample.name);
                 0
             }
+            Answer::Equal => {
+                assert_eq!(said, "equal\n", "{}", sample.name);
+                0
+            }
             Answer::Refused(number, place) => {
                 assert_eq!(said, format!("refused {number} place {place}\n"), "{}", sample.name);
                 1
@@ -50,10 +65,17 @@ fn example_program() {
         };
         assert_eq!(run.status.code(), Some(status), "{}", sample.name);
     }
+}
 
-    for unreadable in [folder.join("none.record"), folder] {
-        let run = check(&program, &unreadable);
-        assert_eq!((run.status.code(), run.stdout), (Some(2), vec![]), "{}", unreadable.display());
-        assert!(!run.stderr.is_empty());
+#[test]
+fn no_verdict() {
+    let program = compiled("check_nothing");
+    let folder = top().join("samples");
+    for kind in ["record", "exchange"] {
+        for unreadable in [folder.join("none"), folder.clone()] {
+            assert_no_verdict(check(&program, kind, &unreadable), &format!("{kind} {}", unreadable.display()));
+        }
     }
+    assert_no_verdict(check(&program, "records", &folder.join("A.record")), "another word");
+    assert_no_verdict(Command::new(&program).arg(folder.join("A.record")).output().expect("the example program starts"), "one word only");
 }

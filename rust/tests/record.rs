@@ -1,7 +1,7 @@
 //! The record check through the wrapper: its verdict, and every word of the list that is lent to it.
 mod common;
 
-use common::{samples, top, Answer};
+use common::{file_of, file_with, on_a_small_stack, samples, top, Answer, Noise, T};
 use std::fs;
 use wethrynda::{check_record, Verdict, MOST_SIGNERS};
 
@@ -32,25 +32,15 @@ fn assert_granted(file: &[u8], room: usize, signers: &[u16], about: &str) {
 fn assert_answer(file: &[u8], room: usize, answer: &Answer, about: &str) {
     match answer {
         Answer::Granted(signers) => assert_granted(file, room, signers, about),
+        Answer::Equal => panic!("{about} is no record"),
         Answer::Refused(number, place) => assert_refused(file, room, *number, *place, about),
     }
 }
 
-/// Words as bytes, low byte first.
-fn file_of(words: &[u16]) -> Vec<u8> {
-    words.iter().flat_map(|word| word.to_le_bytes()).collect()
-}
-
-/// A file of a table (heads and seconds), statements, a goal and steps.
+/// A record of a table, statements, a goal and steps.
 fn record(table: &[(u16, u16)], statements: &[u16], goal: u16, steps: &[u16]) -> Vec<u8> {
-    let sizes = [table.len() as u16, statements.len() as u16, steps.len() as u16, goal];
-    let heads: Vec<u16> = table.iter().map(|entry| entry.0).collect();
-    let seconds: Vec<u16> = table.iter().map(|entry| entry.1).collect();
-    file_of(&[&sizes, &heads[..], &seconds[..], statements, steps].concat())
+    file_with([table.len() as u16, statements.len() as u16, steps.len() as u16, goal], table, &[statements, steps])
 }
-
-/// "Table T: .. heads 0, 20487, 20488, seconds 0, 0, 0"
-const T: [(u16, u16); 3] = [(0, 0), (20487, 0), (20488, 0)];
 
 /// "Record A .. as words"
 const A: [u16; 13] = [2, 1, 4, 1, 0, 20487, 0, 0, 1, 40960, 45057, 4096, 0];
@@ -81,7 +71,7 @@ fn samples_as_document_01_writes_them() {
 
 #[test]
 fn every_sample() {
-    let samples = samples();
+    let samples = samples(".record");
     assert!(samples.len() >= 40);
     for sample in samples {
         assert_answer(&sample.file, MOST_SIGNERS, &sample.answer, &sample.name);
@@ -91,7 +81,7 @@ fn every_sample() {
 
 #[test]
 fn list_just_long_enough_and_one_shorter() {
-    for sample in samples() {
+    for sample in samples(".record") {
         if let Answer::Granted(signers) = sample.answer {
             assert_granted(&sample.file, signers.len(), &signers, &sample.name);
             if !signers.is_empty() {
@@ -117,7 +107,7 @@ fn files_of_up_to_8_bytes() {
 
 #[test]
 fn cut_and_lengthened() {
-    for sample in samples() {
+    for sample in samples(".record") {
         let sized = !matches!(sample.answer, Answer::Refused(1..=3, _));
         if !sized {
             continue;
@@ -209,16 +199,6 @@ fn the_first_reason_counts() {
     assert_refused(&record(&T, &[0], 1, &[0]), 0, 13, 0, "no signers, so no 8");
 }
 
-/// Numbers that look random, and are the same in every run.
-struct Noise(u64);
-
-impl Noise {
-    fn byte(&mut self) -> u8 {
-        self.0 = self.0.wrapping_mul(6_364_136_223_846_793_005).wrapping_add(1_442_695_040_888_963_407);
-        (self.0 >> 56) as u8
-    }
-}
-
 #[test]
 fn noise_is_refused() {
     let mut noise = Noise(1);
@@ -292,10 +272,9 @@ fn the_largest_record() {
 #[test]
 fn a_stack_as_large_as_the_header_says() {
     let (largest, signers) = largest();
-    let run = move || {
+    on_a_small_stack(move || {
         assert_granted(&deep(509, &[4096, 0]), 1, &[7], "512 deep");
         assert_refused(&deep(510, &[4096, 0]), 1, 10, 512, "513 deep");
         assert_granted(&largest, MOST_SIGNERS, &signers, "the largest record");
-    };
-    std::thread::Builder::new().stack_size(640 * 1024).spawn(run).expect("a thread").join().expect("the checks on a small stack");
+    });
 }

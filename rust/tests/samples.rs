@@ -1,12 +1,16 @@
-//! The samples, their index page and what is stored for the program over them are what the generator writes, byte for byte, and nothing else stands
+//! The samples, their index pages and what is stored for the programs over them are what the generator writes, byte for byte, and nothing else stands
 //! beside them.
 mod common;
 
-use common::{samples, top};
+use common::top;
 use std::collections::BTreeMap;
 use std::fs;
 use std::path::Path;
 use std::process::Command;
+
+/// The program over the samples, and the link at the top to its files.
+const PROGRAM: &str = "crates/samples";
+const LINK: &str = "samples";
 
 /// The files of a folder, by name.
 fn files(folder: &Path) -> BTreeMap<String, Vec<u8>> {
@@ -32,21 +36,49 @@ fn generated_files_are_the_stored_ones() {
     let run = Command::new(env!("CARGO_BIN_EXE_make_samples")).arg(&folder).status().expect("make_samples starts");
     assert!(run.success());
 
-    let data = Path::new("crates/record_samples/data");
-    let (stored, made) = (files(&top().join(data)), files(&folder.join(data)));
+    let data = Path::new(PROGRAM).join("data");
+    let (stored, made) = (files(&top().join(&data)), files(&folder.join(&data)));
     for name in stored.keys().chain(made.keys()) {
         assert_same(&data.join(name).display().to_string(), stored.get(name), made.get(name));
     }
     for name in ["args", "stdout"] {
-        let file = Path::new("crates/record_samples").join(name);
+        let file = Path::new(PROGRAM).join(name);
         let read = |top: &Path| fs::read(top.join(&file)).ok();
         assert_same(&file.display().to_string(), read(&top()).as_ref(), read(&folder).as_ref());
     }
+    assert_eq!(fs::read_link(top().join(LINK)).ok(), Some(data), "the link {LINK}");
 }
 
 #[test]
 fn every_sample_has_a_line() {
-    let arguments = fs::read_to_string(top().join("crates/record_samples/args")).expect("the program's arguments");
-    let names: Vec<String> = samples().into_iter().map(|sample| sample.name).collect();
-    assert_eq!(arguments.lines().collect::<Vec<_>>(), names);
+    let read = |name: &str| fs::read_to_string(top().join(PROGRAM).join(name)).expect("what is stored for the program");
+    let lines = read("stdout");
+    let lines: Vec<(&str, &str)> = lines.lines().map(|line| line.split_once(' ').expect(line)).collect();
+    let mut names: Vec<&str> = lines.iter().map(|&(name, _)| name).collect();
+    assert_eq!(read("args").lines().collect::<Vec<_>>(), names);
+    for (name, line) in lines {
+        let (_, ending) = name.rsplit_once('.').expect(name);
+        assert!(is_line(ending, line), "{name} {line}");
+    }
+
+    names.extend(["README.md", "EXCHANGES.md"]);
+    names.sort();
+    assert_eq!(files(&top().join(LINK)).keys().collect::<Vec<_>>(), names);
+}
+
+/// A line of document 01's for a file of that kind.
+fn is_line(ending: &str, line: &str) -> bool {
+    let is_number = |word: &str| word.parse::<u16>().is_ok_and(|number| number.to_string() == word);
+    match line.split(' ').collect::<Vec<_>>()[..] {
+        ["equal"] => ending == "exchange",
+        ["granted", count, ref signers @ ..] => {
+            ending == "record" && count == signers.len().to_string() && signers.iter().all(|signer| is_number(signer))
+        }
+        ["refused", number, "place", place] => {
+            // an exchange file has no goal and no signers
+            let missing = ending == "exchange" && ["6", "8"].contains(&number);
+            is_number(number) && (1..=15).contains(&number.parse().unwrap_or(0)) && !missing && is_number(place)
+        }
+        _ => false,
+    }
 }

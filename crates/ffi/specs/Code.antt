@@ -1,23 +1,20 @@
--- An answer as one number, for callers in C and Rust: the count of a grant as it is, a refusal as its number × 2^32 + its place. Proved in
+-- An answer as one number, for callers in C and Rust: the count of a grant as it is, a refusal as `refusalCode` has it. Proved in
 -- proofs/Tells.antt. Assumes nothing.
-use Prim.Native.Nat.{ℕ, _+_, _*_, _/_, _%_}
+use Prim.Native.Nat.{ℕ, _/_, _%_}
 use mathlib.Core.Path.{_≡_}
 use Rattle.record.specs.declared.verdict.Verdict.{Verdict}
 use Rattle.record.specs.declared.verdict.Verdict.the-variants.{Granted, Refused}
 use Rattle.record.specs.Promises.{Small}
-
--- 2^32
-abbrev pub half : ℕ
-half = 4294967296
+use Rattle.ffi.specs.RefusalCode.{half, refusalCode, RefusalHalves}
 
 unfoldable pub answerCode : Verdict → ℕ
 answerCode (Granted count) = count
-answerCode (Refused number place) = number * half + place
+answerCode (Refused number place) = refusalCode number place
 
 -- What the two halves of the number are: 0 and the count of a grant, the number and the place of a refusal.
 abbrev pub Halves : Verdict → ℕ → ℕ → Type 0
 Halves (Granted count) high low = (high ≡ 0) × (low ≡ count)
-Halves (Refused number place) high low = (high ≡ number) × (low ≡ place)
+Halves (Refused number place) high low = RefusalHalves number place high low
 
 abbrev pub CodeHalves : Type 0
 CodeHalves = (v : Verdict) → Small v → Halves v (answerCode v / half) (answerCode v % half)

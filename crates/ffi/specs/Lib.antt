@@ -1,2 +1,4 @@
--- An answer as one number, for C and Rust.
+-- Answers as one number, for C and Rust.
+pub mod RefusalCode
 pub mod Code
+pub mod ExchangeCode

@@ -1,13 +1,29 @@
-// The record check for C and Rust. `include/wethrynda.h` declares it for C, and the package in `rust/` wraps it for Rust. Nothing checks these
-// declarations against this file, so there is one function here, on byte and word slices, and it asks nothing of its caller.
+// The checks for C and Rust. `include/wethrynda.h` declares them for C, and the package in `rust/` wraps them for Rust. Nothing checks these
+// declarations against this file, so there are two functions here, on byte and word slices, and they ask nothing of their caller.
+ghost use Prim.Native.Nat.{_≤_};
 ghost use mathlib.Core.Path.{_≡_};
 ghost use lib.ListN.{length};
+ghost use Rattle.table.specs.Limits.{mostSteps};
 ghost use Rattle.record.specs.Answer.{recordAnswer};
 ghost use Rattle.record.specs.Lent.{Left};
 ghost use Rattle.record.specs.Promises.{Small};
+ghost use Rattle.exchange.specs.Answer.{exchangeAnswer};
+ghost use Rattle.exchange.specs.Promises.{Small as ExchangeSmall};
+ghost use Rattle.ffi.specs.RefusalCode.{refusalCode};
 ghost use Rattle.ffi.specs.Code.{answerCode};
+ghost use Rattle.ffi.specs.ExchangeCode.{exchangeCode};
+use exchange::check::check_exchange;
+use exchange::verdict::Verdict as Exchange;
 use record::check::check_record;
 use record::verdict::Verdict;
+
+// One number for a refusal within its bounds, of a record or of an exchange file.
+fn refusal_code(number: u8, place: usize) -> u64
+    requires { ⌜ place ≤ mostSteps ⌝ }
+    ensures { λ r. ⌜ r ≡ refusalCode number place ⌝ }
+{
+    number as u64 * 4294967296 + place as u64
+}
 
 // One number for an answer within its bounds.
 fn answer_code(verdict: Verdict) -> u64
@@ -16,7 +32,18 @@ fn answer_code(verdict: Verdict) -> u64
 {
     match verdict {
         Verdict::Granted(count) => count as u64,
-        Verdict::Refused { number, place } => number as u64 * 4294967296 + place as u64,
+        Verdict::Refused { number, place } => refusal_code(number, place),
+    }
+}
+
+// The same for an exchange file's.
+fn exchange_code(verdict: Exchange) -> u64
+    requires { ⌜ ExchangeSmall verdict ⌝ }
+    ensures { λ r. ⌜ r ≡ exchangeCode verdict ⌝ }
+{
+    match verdict {
+        Exchange::Equal => 0,
+        Exchange::Refused { number, place } => refusal_code(number, place),
     }
 }
 
@@ -29,4 +56,13 @@ pub extern "C" fn wethrynda_check_record(file: &[u8], signers: &mut [u16]) -> u6
 {
     let verdict = check_record(file, signers);
     answer_code(verdict)
+}
+
+// The check of an exchange file, as one number: 0 for equal, or a refusal's number × 2^32 + its place. Nothing but the file is lent.
+#[no_mangle]
+pub extern "C" fn wethrynda_check_exchange(file: &[u8]) -> u64
+    ensures { λ r. ⌜ r ≡ exchangeCode (exchangeAnswer (now (file .entry))) ⌝ }
+{
+    let verdict = check_exchange(file);
+    exchange_code(verdict)
 }

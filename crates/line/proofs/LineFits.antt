@@ -1,15 +1,19 @@
--- The promise of specs/RecordLine.antt: every line of a record's answer fits into `mostLine` bytes. Assumes nothing.
+-- The promises of specs/RecordLine.antt and specs/ExchangeLine.antt: every line of an answer fits into `mostLine` bytes. Assumes nothing.
 use Prim.Native.Nat.{ℕ, zero, suc, _+_, _*_, _≤_, _<_}
 use native.Mathlib.Omega.{arith}
 use mathlib.Core.Path.{refl}
 use mathlib.Core.List.{List, [], _∷_, _++_, List·Memᴰ·head, List·Memᴰ·tail}
 use lib.ListN.{length, take, length-append}
 use Rattle.logic.specs.Hypotheses.{_∈_}
+use Rattle.table.specs.Limits.{mostSteps}
 use Rattle.text.specs.Ascii.{ascii}
 use Rattle.text.specs.Decimal.{decimal}
 use Rattle.text.proofs.Digits.{decimal-length}
 use Rattle.record.specs.declared.verdict.Verdict.the-variants.{Granted, Refused}
+use Rattle.exchange.specs.declared.verdict.Verdict.the-variants.{Equal, Refused as ExchangeRefused}
+use Rattle.line.specs.RefusedLine.{refusedLine}
 use Rattle.line.specs.RecordLine.{listed, recordLine, LineFits}
+use Rattle.line.specs.ExchangeLine.{exchangeLine, ExchangeLineFits}
 use Rattle.line.proofs.Listed.{afterBlank}
 
 -- A word of 16 bits after a blank has 6 bytes at most,
@@ -27,7 +31,22 @@ listed-fits (suc count) (k ∷ ks) h =
       length-append (ascii " ") (decimal k),
     )
 
--- a count of at most 256 has 3 digits, a refusal's number 2 and its place 5.
+-- a refusal's number has 2 digits and its place 5,
+refused-fits : (number place : ℕ) → number ≤ 15 → place ≤ mostSteps → length (refusedLine number place) ≤ 23
+unfolding ascii refusedLine
+refused-fits number place few within =
+    let text : List ℕ = ascii "refused " ++ decimal number in
+    omega (
+      arith,
+      decimal-length number 2 (omega arith) (omega arith),
+      decimal-length place 5 (omega arith) (omega arith),
+      length-append (text ++ ascii " place " ++ decimal place) (ascii "\n"),
+      length-append (text ++ ascii " place ") (decimal place),
+      length-append text (ascii " place "),
+      length-append (ascii "refused ") (decimal number),
+    )
+
+-- and a count of at most 256 has 3.
 pub line-fits : LineFits
 unfolding ascii recordLine
 line-fits (Granted count) ks s h =
@@ -40,15 +59,10 @@ line-fits (Granted count) ks s h =
       length-append text (listed (take count ks)),
       length-append (ascii "granted ") (decimal count),
     )
-line-fits (Refused number place) ks s h =
-    let (above, below, within) = s in
-    let text : List ℕ = ascii "refused " ++ decimal number in
-    omega (
-      arith,
-      decimal-length number 2 (omega arith) (omega arith),
-      decimal-length place 5 (omega arith) (omega arith),
-      length-append (text ++ ascii " place " ++ decimal place) (ascii "\n"),
-      length-append (text ++ ascii " place ") (decimal place),
-      length-append text (ascii " place "),
-      length-append (ascii "refused ") (decimal number),
-    )
+line-fits (Refused number place) ks s h = omega (arith, refused-fits number place (s .1) (s .2))
+
+-- `equal` and its line feed have 6 bytes.
+pub exchange-line-fits : ExchangeLineFits
+unfolding ascii exchangeLine
+exchange-line-fits Equal s = omega arith
+exchange-line-fits (ExchangeRefused number place) s = omega (arith, refused-fits number place (s .1) (s .2))

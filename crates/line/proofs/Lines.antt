@@ -2,7 +2,7 @@
 use Prim.Native.Nat.{ℕ, _+_, _-_, _≤_, _<_}
 use native.Mathlib.Omega.{arith}
 use mathlib.Core.Bool.{Bool, true, false}
-use mathlib.Core.Path.{_≡_, refl, sym, ap, subst, _∙_}
+use mathlib.Core.Path.{_≡_, refl, sym, ap, _∙_}
 use mathlib.Core.Logic.{⊎-elim}
 use mathlib.Core.List.{List, _++_}
 use lib.Dec.{ltb, leb}
@@ -10,8 +10,7 @@ use lib.ListN.{length, take, length-append}
 use lib.Seq.{length-take-le}
 use borrow.Author.Tests.{leb-true, lt-ltb, le-ltb, le-leb, lt-leb}
 use Rattle.table.specs.Choice.{pick}
-use Rattle.record.specs.declared.verdict.Verdict.{Verdict}
-use Rattle.record.specs.declared.verdict.Verdict.the-variants.{Granted, Refused}
+use Rattle.record.specs.declared.verdict.Verdict.the-variants.{Granted}
 use Rattle.lent.specs.Written.{written, writtenAt}
 use Rattle.lent.proofs.Written.{written-length}
 use Rattle.text.specs.Ascii.{ascii}
@@ -19,7 +18,9 @@ use Rattle.text.specs.Decimal.{decimal}
 use Rattle.text.specs.Fill.{placeAfter}
 use Rattle.text.proofs.Split.{split}
 use Rattle.text.proofs.Places.{fill-fits}
-use Rattle.line.specs.RecordLine.{listed, recordLine, lineAfter, lineCount}
+use Rattle.line.specs.Line.{lineAfter, lineCount}
+use Rattle.line.specs.RefusedLine.{refusedLine}
+use Rattle.line.specs.RecordLine.{listed, recordLine}
 
 -- The room left after two texts, one after the other.
 pub left-then : (room : ℕ) (xs ys : List ℕ) {left less : ℕ} → left ≡ room - length xs → less ≡ left - length ys → less ≡ room - length (xs ++ ys)
@@ -43,29 +44,27 @@ is-room room text {left} e = ⊎-elim short fits (split room (length line))
     fits l = lt-ltb 0 left (omega (arith, one-more)) ∙ sym (le-leb (length line) room l)
 
 -- What a grant's line leaves before its line feed,
-pub granted-room : (room count : ℕ) (signers : List ℕ) {v : Verdict} {a b left : ℕ} → v ≡ Granted count
+pub granted-room : (room count : ℕ) (signers : List ℕ) {a b left : ℕ}
     → a ≡ room - 8 → b ≡ a - length (decimal count) → left ≡ b - length (listed (take count signers))
-    → ltb 0 left ≡ leb (length (recordLine v signers)) room
+    → ltb 0 left ≡ leb (length (recordLine (Granted count) signers)) room
 unfolding ascii recordLine
-granted-room room count signers {v} {left} e ea eb el =
+granted-room room count signers ea eb el =
     let word : List ℕ = ascii "granted " in
     let counted = left-then room word (decimal count) ea eb in
     let named = left-then room (word ++ decimal count) (listed (take count signers)) counted el in
-    subst (λ (w : Verdict). ltb 0 left ≡ leb (length (recordLine w signers)) room) (sym e)
-    (is-room room (word ++ decimal count ++ listed (take count signers)) named)
+    is-room room (word ++ decimal count ++ listed (take count signers)) named
 
 -- and what a refusal's leaves.
-pub refused-room : (room number place : ℕ) (signers : List ℕ) {v : Verdict} {a b c left : ℕ} → v ≡ Refused number place
+pub refused-room : (room number place : ℕ) {a b c left : ℕ}
     → a ≡ room - 8 → b ≡ a - length (decimal number) → c ≡ b - 7 → left ≡ c - length (decimal place)
-    → ltb 0 left ≡ leb (length (recordLine v signers)) room
-unfolding ascii recordLine
-refused-room room number place signers {v} {left} e ea eb ec el =
+    → ltb 0 left ≡ leb (length (refusedLine number place)) room
+unfolding ascii refusedLine
+refused-room room number place ea eb ec el =
     let word : List ℕ = ascii "refused " in
     let numbered = left-then room word (decimal number) ea eb in
     let middle = left-then room (word ++ decimal number) (ascii " place ") numbered ec in
     let placed = left-then room (word ++ decimal number ++ ascii " place ") (decimal place) middle el in
-    subst (λ (w : Verdict). ltb 0 left ≡ leb (length (recordLine w signers)) room) (sym e)
-    (is-room room (word ++ decimal number ++ ascii " place " ++ decimal place) placed)
+    is-room room (word ++ decimal number ++ ascii " place " ++ decimal place) placed
 
 -- What a call owes that writes a line into lent bytes: the count, the bytes, and that so many bytes can be read from their start.
 abbrev pub Owed : List ℕ → List ℕ → ℕ → List ℕ → Type 0
@@ -81,16 +80,12 @@ owed-none before line e = (
 )
 
 -- and one with room is filled in from the start.
-pub owed-all : (before signers : List ℕ) {v w : Verdict} {after : List ℕ} {count : ℕ} → v ≡ w
-    → leb (length (recordLine v signers)) (length before) ≡ true
-    → (after ≡ writtenAt before 0 (recordLine w signers)) × (count ≡ placeAfter before 0 (recordLine w signers))
-    → Owed before (recordLine v signers) count after
-owed-all before signers {v} {w} {after} {count} vw e f =
-    let line : List ℕ = recordLine v signers in
-    let same : recordLine w signers ≡ line = ap (λ (u : Verdict). recordLine u signers) (sym vw) in
-    let filled : after ≡ written before line = f .0 ∙ ap (written before) same in
+pub owed-all : (before : List ℕ) {line text after : List ℕ} {count : ℕ} → line ≡ text → leb (length line) (length before) ≡ true
+    → (after ≡ writtenAt before 0 text) × (count ≡ placeAfter before 0 text) → Owed before line count after
+owed-all before {line} {text} {after} {count} same e f =
+    let filled : after ≡ written before line = f .0 ∙ ap (written before) (sym same) in
     let fits = leb-true (length line) (length before) e in
-    let whole : count ≡ length line = f .1 ∙ ap (placeAfter before 0) same ∙ fill-fits before 0 line (omega arith) ∙ omega arith in
+    let whole : count ≡ length line = f .1 ∙ ap (placeAfter before 0) (sym same) ∙ fill-fits before 0 line (omega arith) ∙ omega arith in
     let long : length after ≡ length before = ap length filled ∙ written-length before line in
     let within : count ≤ length after = omega arith in (
       whole ∙ sym (ap (λ (t : Bool). pick t (length line) 0) e),

@@ -1,4 +1,4 @@
--- What the program prints for a file (specs/Printed.antt). Assumes nothing.
+-- What the programs print for a file (specs/Printed.antt). Assumes nothing.
 use Prim.Native.Nat.{ℕ, zero, suc, _≤_, _<_}
 use native.Mathlib.Omega.{arith}
 use mathlib.Core.Bool.{Bool, true}
@@ -20,9 +20,15 @@ use Rattle.record.specs.Layout.{heads, seconds, statements}
 use Rattle.record.specs.Answer.{recordAnswer}
 use Rattle.record.specs.Lent.{Left}
 use Rattle.record.proofs.Small.{answers-small}
-use Rattle.line.specs.Printed.{Printed, WholeLine}
-use Rattle.line.specs.RecordLine.{recordLine, lineAfter, lineCount}
-use Rattle.line.proofs.LineFits.{line-fits}
+use Rattle.exchange.specs.declared.verdict.Verdict.{Verdict as ExchangeVerdict}
+use Rattle.exchange.specs.Answer.{exchangeAnswer}
+use Rattle.exchange.proofs.Small.{answers-small as exchange-answers-small}
+use Rattle.line.specs.Line.{lineAfter, lineCount}
+use Rattle.line.specs.RecordLine.{recordLine}
+use Rattle.line.specs.ExchangeLine.{exchangeLine}
+use Rattle.line.specs.Printed.{Printed, WholeLine, WholeExchangeLine}
+use Rattle.line.proofs.Lines.{Owed}
+use Rattle.line.proofs.LineFits.{line-fits, exchange-line-fits}
 
 -- The check's answer, the list that it leaves, and the line of both.
 pub printed :
@@ -35,6 +41,12 @@ printed file before {v} list {count} after answered left counted written = recor
   counted = counted ∙ ap (λ (w : Verdict). lineCount before (recordLine w list)) answered;
   written = written ∙ ap (λ (w : Verdict). lineAfter before (recordLine w list)) answered;
 }
+
+-- The same for an exchange file, which has no list.
+pub exchange-printed :
+    (file before : List ℕ) {v : ExchangeVerdict} {count : ℕ} {after : List ℕ}
+    → v ≡ exchangeAnswer file → Owed before (exchangeLine v) count after → Owed before (exchangeLine (exchangeAnswer file)) count after
+exchange-printed file before {count} {after} answered = subst (λ (w : ExchangeVerdict). Owed before (exchangeLine w) count after) answered
 
 -- ---- the words of the list
 
@@ -71,3 +83,8 @@ whole-line file before count after p room =
     let v : Verdict = recordAnswer file mostStatements in
     let fits = line-fits v (p .list) (answers-small file mostStatements) (are-words file mostStatements v (p .list) (p .left)) in
     fits-whole before (recordLine v (p .list)) (omega arith) (p .counted) (p .written)
+
+pub whole-exchange-line : WholeExchangeLine
+whole-exchange-line file before count after counted is room =
+    let fits = exchange-line-fits (exchangeAnswer file) (exchange-answers-small file) in
+    fits-whole before (exchangeLine (exchangeAnswer file)) (omega arith) counted is

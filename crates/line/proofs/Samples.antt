@@ -12,9 +12,12 @@ use Rattle.file.specs.Words.{fileWords, fileOf}
 use Rattle.file.specs.Refusals.{firstRefusal}
 use Rattle.signers.specs.Signers.{joinedAll, signers}
 use Rattle.record.specs.Answer.{recordAnswer}
+use Rattle.exchange.specs.Answer.{exchangeAnswer}
+use Rattle.line.specs.RefusedLine.{refusedLine}
 use Rattle.line.specs.RecordLine.{listed, recordLine}
+use Rattle.line.specs.ExchangeLine.{exchangeLine}
 use Rattle.line.specs.Samples.{Samples}
 
 pub samples : Samples
-unfolding listed recordLine ascii decimal digits recordAnswer fileWords fileOf firstRefusal wrongEntry repeatedEntry first joinedAll signers run walk step opens holds entries entry
+unfolding listed recordLine refusedLine exchangeLine ascii decimal digits recordAnswer exchangeAnswer fileWords fileOf firstRefusal wrongEntry repeatedEntry first joinedAll signers run walk step opens holds entries entry
 samples = refl

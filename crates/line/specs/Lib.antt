@@ -1,4 +1,7 @@
--- The line that a program prints for an answer, and samples of lines.
+-- The lines that the programs print for an answer, and samples of lines.
+pub mod Line
+pub mod RefusedLine
 pub mod RecordLine
+pub mod ExchangeLine
 pub mod Printed
 pub mod Samples

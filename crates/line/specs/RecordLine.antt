@@ -1,18 +1,16 @@
--- "The first word of the line is granted or refused for a record .. After granted stand the count and the signers; after refused stand the
--- number, the word `place` and the place .. One blank parts the words and a line feed ends the line." (01) Assumes nothing.
+-- "The first word of the line is granted or refused for a record .. After granted stand the count and the signers .. One blank parts the words
+-- and a line feed ends the line." (01) Proved in proofs/LineFits.antt. Assumes nothing.
 use Prim.Native.Nat.{ℕ, _≤_, _<_, _+_, _*_}
 use mathlib.Core.List.{List, [], _∷_, _++_}
 use lib.ListN.{length, take}
-use lib.Dec.{leb}
 use Rattle.logic.specs.Hypotheses.{_∈_}
-use Rattle.table.specs.Choice.{pick}
 use Rattle.table.specs.Limits.{mostStatements}
-use Rattle.lent.specs.Written.{written}
 use Rattle.text.specs.Ascii.{ascii}
 use Rattle.text.specs.Decimal.{decimal}
 use Rattle.record.specs.declared.verdict.Verdict.{Verdict}
 use Rattle.record.specs.declared.verdict.Verdict.the-variants.{Granted, Refused}
 use Rattle.record.specs.Promises.{Small}
+use Rattle.line.specs.RefusedLine.{refusedLine}
 
 -- numbers in decimal, each after a blank
 unfoldable pub listed : List ℕ → List ℕ
@@ -22,14 +20,7 @@ listed (k ∷ ks) = ascii " " ++ decimal k ++ listed ks
 -- the line for an answer; after granted stand the first `count` words of the list that was lent, as far as it goes
 unfoldable pub recordLine : Verdict → List ℕ → List ℕ
 recordLine (Granted count) signers = ascii "granted " ++ decimal count ++ listed (take count signers) ++ ascii "\n"
-recordLine (Refused number place) signers = ascii "refused " ++ decimal number ++ ascii " place " ++ decimal place ++ ascii "\n"
-
--- What is written into lent bytes: the whole line from their start, or nothing where it doesn't fit; and how many bytes that is.
-abbrev pub lineAfter : List ℕ → List ℕ → List ℕ
-lineAfter before line = pick (leb (length line) (length before)) (written before line) before
-
-abbrev pub lineCount : List ℕ → List ℕ → ℕ
-lineCount before line = pick (leb (length line) (length before)) (length line) 0
+recordLine (Refused number place) signers = refusedLine number place
 
 -- Every line of a record's answer fits into so many bytes: a count of three digits, and 256 signers of five.
 abbrev pub mostLine : ℕ

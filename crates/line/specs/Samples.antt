@@ -1,5 +1,5 @@
--- Samples of lines: those of 01, "Record A prints `granted 1 7`, sample C prints `refused 14 place 0`", and a few more. Proved in
--- proofs/Samples.antt, by computation. Assumes nothing.
+-- Samples of lines: those of 01, "Record A prints `granted 1 7`, sample C prints `refused 14 place 0`, sample K prints `equal`", and a few more.
+-- Proved in proofs/Samples.antt, by computation. Assumes nothing.
 use Prim.Native.Nat.{ℕ}
 use Prim.Native.String.{String}
 use mathlib.Core.Path.{_≡_}
@@ -10,18 +10,26 @@ use Rattle.record.specs.declared.verdict.Verdict.{Verdict}
 use Rattle.record.specs.declared.verdict.Verdict.the-variants.{Granted, Refused}
 use Rattle.record.specs.Answer.{recordAnswer}
 use Rattle.record.specs.Samples.{overT}
+use Rattle.exchange.specs.declared.verdict.Verdict.{Verdict as ExchangeVerdict}
+use Rattle.exchange.specs.declared.verdict.Verdict.the-variants.{Equal, Refused as ExchangeRefused}
+use Rattle.exchange.specs.Answer.{exchangeAnswer}
+use Rattle.exchange.specs.Samples.{K}
 use Rattle.line.specs.RecordLine.{recordLine}
+use Rattle.line.specs.ExchangeLine.{exchangeLine}
 
--- a row: the answer, the lent list, and the line
+-- a row: the bytes by the definitions, and the line in quotes
 pub record Sample : Type 0 where
-  pub answer : Verdict
-  pub signers : List ℕ
+  pub bytes : List ℕ
   pub line : String
 
+-- the row of a record's answer and the lent list, and that of an exchange's answer
 abbrev pub row : Verdict → List ℕ → String → Sample
-row answer signers line = record { answer = answer; signers = signers; line = line }
+row answer signers line = record { bytes = recordLine answer signers; line = line }
 
--- the answer for a file of these words, with a list of 256 words lent, as the program does
+abbrev pub exchangeRow : ExchangeVerdict → String → Sample
+exchangeRow answer line = record { bytes = exchangeLine answer; line = line }
+
+-- the answer for a record of these words, with a list of 256 words lent, as the program does
 abbrev pub answerOf : List ℕ → Verdict
 answerOf words = recordAnswer (fileOf words) 256
 
@@ -35,7 +43,11 @@ rows =
     ∷ row (Refused 9 16384) (7 ∷ []) "refused 9 place 16384\n"
     ∷ row (answerOf (2 ∷ 1 ∷ 4 ∷ 1 ∷ 0 ∷ 20487 ∷ 0 ∷ 0 ∷ 1 ∷ 40960 ∷ 45057 ∷ 4096 ∷ 0 ∷ [])) (7 ∷ []) "granted 1 7\n"
     ∷ row (answerOf (overT (1 ∷ []) 0 (45057 ∷ []))) [] "refused 14 place 0\n"
+    ∷ exchangeRow Equal "equal\n"
+    ∷ exchangeRow (ExchangeRefused 12 0) "refused 12 place 0\n"
+    ∷ exchangeRow (ExchangeRefused 9 16384) "refused 9 place 16384\n"
+    ∷ exchangeRow (exchangeAnswer (fileOf K)) "equal\n"
     ∷ []
 
 abbrev pub Samples : Type 0
-Samples = map (λ r. recordLine (r .answer) (r .signers)) rows ≡ map (λ r. ascii (r .line)) rows
+Samples = map (λ r. r .bytes) rows ≡ map (λ r. ascii (r .line)) rows

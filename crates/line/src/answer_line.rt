@@ -1,15 +1,20 @@
-// What the program prints for a file: all that it does but reading and writing.
+// What a program prints for a file: all that it does but reading and writing.
 ghost use Prim.Native.Nat.{_≤_};
 ghost use mathlib.Core.Path.{_≡_};
 ghost use lib.ListN.{length, take};
+ghost use Rattle.exchange.specs.Answer.{exchangeAnswer};
+ghost use Rattle.line.specs.ExchangeLine.{exchangeLine};
+ghost use Rattle.line.specs.Line.{lineAfter, lineCount};
 ghost use Rattle.line.specs.Printed.{Printed};
 ghost use Rattle.line.specs.RecordLine.{mostLine};
+use crate::exchange_line::write_exchange_line;
 use crate::record_line::MOST_LINE;
 use crate::record_line::write_record_line;
+use exchange::check::check_exchange;
 use record::check::check_record;
 use table::limits::MOST_STATEMENTS;
 
-// Bytes for a line: every line has room (`WholeLine`). Free: what they hold before a line is written.
+// Bytes for a line: every line has room (`WholeLine`, `WholeExchangeLine`). Free: what they hold before a line is written.
 pub fn line_buffer() -> [u8; MOST_LINE]
     ensures { λ r. ⌜ mostLine ≡ length r ⌝ }
 {
@@ -24,4 +29,14 @@ pub fn answer_line(file: &[u8], line: &mut [u8]) -> usize
     let mut signers = [0u16; MOST_STATEMENTS];
     let verdict = check_record(file, &mut signers);
     write_record_line(verdict, &signers, line)
+}
+
+// Checks an exchange file, and writes the line of the answer as `write_exchange_line` does.
+pub fn answer_exchange_line(file: &[u8], line: &mut [u8]) -> usize
+    ensures { λ r. ⌜ r ≡ lineCount (now (line .entry)) (exchangeLine (exchangeAnswer (now (file .entry)))) ⌝ }
+    ensures { λ _. ⌜ now (line .exit) ≡ lineAfter (now (line .entry)) (exchangeLine (exchangeAnswer (now (file .entry)))) ⌝ }
+    ensures { λ r. ⌜ (r ≤ length (now (line .exit))) × (r ≡ length (take r (now (line .exit)))) ⌝ }
+{
+    let verdict = check_exchange(file);
+    write_exchange_line(verdict, line)
 }

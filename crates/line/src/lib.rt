@@ -1,5 +1,6 @@
-// The line that a program prints for an answer.
+// The lines that the programs print for an answer.
 pub mod answer_line;
+pub mod exchange_line;
 mod granted;
 mod measure;
 pub mod record_line;

@@ -7,8 +7,9 @@ ghost use lib.ListN.{length, take};
 ghost use lib.Dec.{leb};
 ghost use Rattle.text.specs.Ascii.{ascii};
 ghost use Rattle.text.specs.Decimal.{decimal};
+ghost use Rattle.record.specs.declared.verdict.Verdict.the-variants.{Granted};
 ghost use Rattle.line.specs.RecordLine.{listed, recordLine};
-use record::verdict::Verdict;
+ghost use Rattle.line.specs.RefusedLine.{refusedLine};
 use text::decimal::decimal_length;
 
 // The room left where some is used, none where there isn't so much.
@@ -48,16 +49,18 @@ fn less_listed(room: usize, signers: &[u16], count: usize) -> usize
     left
 }
 
-// Whether an answer's line has room. Its verdict word and blank have 8 bytes, " place " has 7, and before its line feed some room is left.
-pub(crate) fn is_room(verdict: Verdict, signers: &[u16], room: usize) -> bool
-    ensures { λ r. ⌜ r ≡ leb (length (recordLine verdict (now (signers .entry)))) room ⌝ }
+// Whether a grant's line has room. Its first word and blank have 8 bytes, and before its line feed some room is left.
+pub(crate) fn is_granted_room(count: usize, signers: &[u16], room: usize) -> bool
+    ensures { λ r. ⌜ r ≡ leb (length (recordLine (Granted count) (now (signers .entry)))) room ⌝ }
 {
-    let after_word = less(room, 8);
-    let left = match verdict {
-        Verdict::Granted(count) => less_listed(less_decimal(after_word, count), signers, count),
-        Verdict::Refused { number, place } => {
-            less_decimal(less(less_decimal(after_word, number as usize), 7), place)
-        },
-    };
-    left > 0
+    let counted = less_decimal(less(room, 8), count);
+    less_listed(counted, signers, count) > 0
+}
+
+// Whether a refusal's line has room, a record's or an exchange's: so too, and " place " has 7 bytes.
+pub(crate) fn is_refused_room(number: u8, place: usize, room: usize) -> bool
+    ensures { λ r. ⌜ r ≡ leb (length (refusedLine number place)) room ⌝ }
+{
+    let numbered = less_decimal(less(room, 8), number as usize);
+    less_decimal(less(numbered, 7), place) > 0
 }

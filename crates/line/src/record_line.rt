@@ -2,16 +2,29 @@
 // the line." (01)
 ghost use Prim.Native.Nat.{_≤_};
 ghost use mathlib.Core.Path.{_≡_};
+ghost use lib.Dec.{leb};
 ghost use lib.ListN.{length, take};
-ghost use Rattle.line.specs.RecordLine.{recordLine, lineAfter, lineCount};
+ghost use Rattle.line.specs.Line.{lineAfter, lineCount};
+ghost use Rattle.line.specs.RecordLine.{recordLine};
 use crate::granted::fill_granted;
-use crate::measure::is_room;
+use crate::measure::is_granted_room;
+use crate::measure::is_refused_room;
 use crate::refused::fill_refused;
 use record::verdict::Verdict;
 use table::limits::MOST_STATEMENTS;
 
 // Every line of a record's answer fits into so many bytes: a count of three digits, and 256 signers of five, each after a blank.
 pub const MOST_LINE: usize = 8 + 3 + MOST_STATEMENTS * 6 + 1;
+
+// Whether an answer's line has room.
+fn is_room(verdict: Verdict, signers: &[u16], room: usize) -> bool
+    ensures { λ r. ⌜ r ≡ leb (length (recordLine verdict (now (signers .entry)))) room ⌝ }
+{
+    match verdict {
+        Verdict::Granted(count) => is_granted_room(count, signers, room),
+        Verdict::Refused { number, place } => is_refused_room(number, place, room),
+    }
+}
 
 // Writes the line for an answer from the start of lent bytes and gives how many bytes that is, or writes nothing and gives 0 where the line
 // doesn't fit. By the last promise a caller can take `&line[..r]` without a test.

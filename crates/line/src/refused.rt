@@ -1,17 +1,15 @@
 // "after refused stand the number, the word `place` and the place" (01).
 ghost use mathlib.Core.Path.{_≡_};
-ghost use mathlib.Core.List.{[]};
 ghost use Rattle.lent.specs.Written.{writtenAt};
 ghost use Rattle.text.specs.Fill.{placeAfter};
-ghost use Rattle.record.specs.declared.verdict.Verdict.the-variants.{Refused};
-ghost use Rattle.line.specs.RecordLine.{recordLine};
+ghost use Rattle.line.specs.RefusedLine.{refusedLine};
 use text::decimal::fill_decimal;
 use text::fill::fill;
 
-// Writes a refusal's line from the start, as far as there is room, and gives the place after it. It has no signers.
+// Writes a refusal's line from the start, as far as there is room, and gives the place after it.
 pub(crate) fn fill_refused(line: &mut [u8], number: u8, place: usize) -> usize
-    ensures { λ _. ⌜ now (line .exit) ≡ writtenAt (now (line .entry)) 0 (recordLine (Refused number place) []) ⌝ }
-    ensures { λ r. ⌜ r ≡ placeAfter (now (line .entry)) 0 (recordLine (Refused number place) []) ⌝ }
+    ensures { λ _. ⌜ now (line .exit) ≡ writtenAt (now (line .entry)) 0 (refusedLine number place) ⌝ }
+    ensures { λ r. ⌜ r ≡ placeAfter (now (line .entry)) 0 (refusedLine number place) ⌝ }
 {
     let mut end = fill(line, 0, b"refused ");
     end = fill_decimal(line, end, number as usize);

@@ -1,26 +1,18 @@
--- `ffi::answer_code` meets its contract: each arm gives its case of `answerCode`, and a refusal within its bounds fits. Assumes nothing.
+-- `ffi::answer_code` meets its contract: each arm gives its case of `answerCode`, and a refusal's place is within its bound. Assumes nothing.
 use borrow.Author.Needs.{needs}
-use Rattle.ffi.proofs.Tells.{granted-code, refused-code, refused-fits}
+use mathlib.Core.Path.{_∙_}
+use Rattle.ffi.proofs.Tells.{granted-code, refused-code, refused-within}
 use Rattle.ffi.proofs.answer_code.Statement.{statement}
 use Rattle.ffi.proofs.answer_code.Tie as tie
 
-add-result : tie.Need-add-result
-add-result c = record { fits = refused-fits (c .before .before .before .pre) (c .before .verdict2 .given .1) }
+refusal-code-requires : tie.Need-refusal-code-requires
+refusal-code-requires c κs = refused-within (c .before .before .before .pre) (c .before .verdict2 .given .1)
 
 returns : tie.Need-returns
 returns c = granted-code (c .before .verdict .given .1)
 
 returns-2 : tie.Need-returns-2
-returns-2 c = refused-code (c .before .verdict2 .given .1)
+returns-2 c = c .refusal-code .ensures ∙ refused-code (c .before .before .verdict2 .given .1)
 
 pub answer-code-spec : {M : Type 1} → statement M
-answer-code-spec =
-    tie.close
-    (tie.spec
-    (λ c. search needs)
-    (λ c. search needs)
-    (λ c. search needs)
-    (λ c. search needs)
-    add-result
-    returns
-    returns-2)
+answer-code-spec = tie.close (tie.spec (λ c. search needs) (λ c. search needs) refusal-code-requires returns returns-2)

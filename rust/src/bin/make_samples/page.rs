@@ -1,9 +1,10 @@
-//! The index page of the samples, for teachers.
-use crate::record::{Record, Step, Table};
-use crate::samples::Section;
+//! The index pages of the samples, for teachers.
+use crate::exchange::Exchange;
+use crate::record::Record;
+use crate::sample::{Kind, Section};
 use std::fmt::Write;
 
-const HEAD: &str = "\
+const RECORDS: &str = "\
 # Samples
 
 Records to hand out: what each shows, and the line that the program prints for it. At the top of the repository
@@ -11,13 +12,39 @@ Records to hand out: what each shows, and the line that the program prints for i
     ./wethrynda record samples/A.record
 
 checks one. This page and the files are made by `cargo run --release --bin make_samples` in `rust/`, and the gate compares them with what that
-writes.
+writes. Exchange files stand in the same folder; [EXCHANGES.md](EXCHANGES.md) is their page.
 
 How a record is laid out stands in `crates/record/specs/Layout.antt`, and the rules, as a table, in `crates/steps/specs/Rules.antt`. Here a0 is atom 0,
 p7 is principal 7, and a formula that has parts stands in round brackets. Before an entry of the table, a statement and the goal stands the formula's
 number. A step is written as its place, counted from 0, its word, its rule, and the hypothesis that it names, if any. A paper of p7 is a statement of the form
 (p7 says A), and an order any other statement.
 
+A record is refused by the first of these reasons that applies:
+";
+
+const EXCHANGES: &str = "\
+# Samples of exchange files
+
+Exchange files to hand out: what each shows, and the line that the program prints for it. At the top of the repository
+
+    ./wethrynda exchange samples/K.exchange
+
+checks one. This page and the files are made by `cargo run --release --bin make_samples` in `rust/`, and the gate compares them with what that
+writes. How three lists of standing orders are folded into one is told step by step in `docs/FOLDING.md`.
+
+An exchange file is made of 16-bit words, low byte first: F formulas (1 to 4,096), S1 and S2 statements (each 0 to 256) and N steps (0 to 16,384); F heads
+and F seconds; the first list, S1 formula numbers; the second list, S2 formula numbers; N steps. Table, statements and steps are those of a record. The
+steps are a proof of each statement of the second list from the first list, in order, and then of each statement of the first list from the second. There is one for
+every position, so a statement that stands twice is proved twice. Nothing stands between two proofs: each begins at the word after the last one.
+
+`equal` says that the file carries all these proofs, and so that the two lists have equal force: whatever has a proof from the one has a proof from the
+other. `refused` says that this file does not carry them. It does not say that the lists differ in force.
+
+The samples are written as on the page of the records, [README.md](README.md): a0 is atom 0, p7 is principal 7, a formula that has parts stands in round brackets, and a step is
+written as its place, counted from 0 through all steps, its word, its rule, and the hypothesis that it names, if any. An empty row parts the steps of two proofs,
+as whoever wrote them meant it.
+
+An exchange file is refused by the first of these reasons that applies. The numbers are those of the records; 6 and 8 do not occur here.
 ";
 
 /// "Refused, in checking order" (01): the numbers from 1, and the places.
@@ -43,34 +70,40 @@ const REFUSALS: [(&str, &str); 15] = [
     ("The proof is closed and words remain.", "the first of them"),
 ];
 
-/// The rules' names in the order of their codes, and whether the rule names a hypothesis.
-const RULES: [(&str, bool); 12] = [
-    ("init", true),
-    ("affirm", false),
-    ("implies right", false),
-    ("implies left", true),
-    ("false left", true),
-    ("and right", false),
-    ("and left", true),
-    ("or right first", false),
-    ("or right second", false),
-    ("or left", true),
-    ("says right", false),
-    ("says left", true),
-];
+/// What reads otherwise for an exchange file: "the list above without 6 and 8. Places for 7 run through both lists, for 9 to 15 through all step words;
+/// depth starts at 1 in each proof".
+fn exchange_refusal(number: usize) -> Option<(&'static str, &'static str)> {
+    match number {
+        2 => Some(("F, S1, S2 or N is outside its range.", "0")),
+        6 | 8 => None,
+        7 => Some(("A statement's number is F or more.", "the first such position, through the first list and then the second")),
+        10 => Some(("The step's depth, counted from 1 in each proof, is above 512.", "the step")),
+        15 => Some(("The last proof is closed and words remain.", "the first of them")),
+        _ => Some(REFUSALS[number - 1]),
+    }
+}
 
-pub fn page(sections: &[Section]) -> String {
-    let mut text = String::from(HEAD);
-    text.push_str("A record is refused by the first of these reasons that applies:\n\n| number | reason | place |\n|---|---|---|\n");
-    for (number, (reason, place)) in (1..).zip(REFUSALS) {
-        writeln!(text, "| {number} | {reason} | {place} |").unwrap();
+pub fn of_records(sections: &[Section<Record>]) -> String {
+    page(RECORDS, |number| Some(REFUSALS[number - 1]), sections)
+}
+
+pub fn of_exchanges(sections: &[Section<Exchange>]) -> String {
+    page(EXCHANGES, exchange_refusal, sections)
+}
+
+fn page<T: Kind>(head: &str, refusal: impl Fn(usize) -> Option<(&'static str, &'static str)>, sections: &[Section<T>]) -> String {
+    let mut text = format!("{head}\n| number | reason | place |\n|---|---|---|\n");
+    for number in 1..=REFUSALS.len() {
+        if let Some((reason, place)) = refusal(number) {
+            writeln!(text, "| {number} | {reason} | {place} |").unwrap();
+        }
     }
     for section in sections {
         writeln!(text, "\n## {}\n\n{}", section.title, section.about).unwrap();
         for sample in &section.samples {
             writeln!(text, "\n### {}\n\n{}\n\n```", sample.file_name(), sample.shows).unwrap();
-            if let Some(record) = &sample.record {
-                text.push_str(&in_words(record));
+            for (heading, rows) in sample.contents.iter().flat_map(T::parts) {
+                text.push_str(&under(heading, rows));
             }
             writeln!(text, "line        {}\n```", sample.line).unwrap();
         }
@@ -78,73 +111,15 @@ pub fn page(sections: &[Section]) -> String {
     text
 }
 
-/// Rows under a heading that stands at the first of them.
-fn rows(heading: &str, mut rows: Vec<String>) -> String {
+/// Rows under a heading that stands at the first of them. An empty row stays empty.
+fn under(heading: &str, mut rows: Vec<String>) -> String {
     if rows.is_empty() {
         rows.push("none".to_string());
     }
     let mut text = String::new();
     let headings = std::iter::once(heading).chain(std::iter::repeat(""));
     for (heading, row) in headings.zip(rows) {
-        writeln!(text, "{heading:<12}{row}").unwrap();
+        writeln!(text, "{}", format!("{heading:<12}{row}").trim_end()).unwrap();
     }
     text
-}
-
-fn in_words(record: &Record) -> String {
-    let table = &record.table;
-    let entries = (0..table.heads.len()).map(|number| format!("{number}  {}", formula(table, number)));
-    let statements = record.statements.iter().map(|statement| numbered(table, statement.0));
-    rows("table", entries.collect())
-        + &rows("statements", statements.collect())
-        + &rows("goal", vec![numbered(table, record.goal.0)])
-        + &rows("steps", steps(record))
-}
-
-/// A row for each step: its place, its word, its rule. A long run of one step takes one row.
-fn steps(record: &Record) -> Vec<String> {
-    let mut places = Vec::new();
-    let mut next = 0;
-    for run in record.steps.chunk_by(|one, other| one == other) {
-        let last = next + run.len() - 1;
-        if run.len() > 9 {
-            places.push((format!("{next} to {last}"), run[0]));
-        } else {
-            places.extend((next..).map(|place| place.to_string()).zip(run.iter().copied()));
-        }
-        next = last + 1;
-    }
-    let width = places.iter().map(|(place, _)| place.len()).max().unwrap_or(0);
-    places.into_iter().map(|(place, step)| format!("{place:<width$}  {:>5}  {}", step.word(), rule(&record.table, step))).collect()
-}
-
-fn numbered(table: &Table, number: u16) -> String {
-    format!("{number}  {}", formula(table, number.into()))
-}
-
-/// A step's rule, and the hypothesis that it names.
-fn rule(table: &Table, step: Step) -> String {
-    match RULES.get(usize::from(step.code)) {
-        Some((name, true)) => format!("{name} {}", formula(table, step.part.into())),
-        Some((name, false)) => name.to_string(),
-        None => "no rule".to_string(),
-    }
-}
-
-/// What an entry spells out. Where it has no meaning, as in a table that is wrong, it is told by its number.
-fn formula(table: &Table, number: usize) -> String {
-    let Some(&head) = table.heads.get(number) else {
-        return "no entry".to_string();
-    };
-    let (first, second) = (usize::from(head % 4096), usize::from(table.seconds[number]));
-    let operand = |operand: usize| if operand < number { formula(table, operand) } else { format!("entry {operand}") };
-    match head / 4096 {
-        0 => format!("a{first}"),
-        1 => "false".to_string(),
-        2 => format!("({} implies {})", operand(first), operand(second)),
-        3 => format!("({} and {})", operand(first), operand(second)),
-        4 => format!("({} or {})", operand(first), operand(second)),
-        5 => format!("(p{first} says {})", operand(second)),
-        _ => format!("entry {number}"),
-    }
 }

@@ -2,12 +2,12 @@
 use borrow.Author.Needs.{needs}
 use Rattle.text.specs.Ascii.{ascii}
 use Rattle.text.proofs.Places.{fill-then}
-use Rattle.line.specs.RecordLine.{recordLine}
+use Rattle.line.specs.RefusedLine.{refusedLine}
 use Rattle.line.proofs.refused.fill_refused.Statement.{statement}
 use Rattle.line.proofs.refused.fill_refused.Tie as tie
 
 returns : tie.Need-returns
-unfolding ascii recordLine
+unfolding ascii refusedLine
 returns c =
     let last = c .before .before in
     let place = last .before .before .before .before .before in

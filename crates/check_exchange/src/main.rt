@@ -1,0 +1,30 @@
+// "one reads an exchange file .. prints one line." (01) All but reading and writing is `answer_exchange_line`'s.
+use exchange::limits::file_buffer;
+use input::read_input;
+use libc::STDERR_FILENO;
+use libc::STDIN_FILENO;
+use libc::STDOUT_FILENO;
+use line::answer_line::answer_exchange_line;
+use line::answer_line::line_buffer;
+
+fn main() {
+    let mut file = file_buffer();
+    let input = read_input(STDIN_FILENO, &mut file);
+    if !input.ok {
+        io::write_all(
+            STDERR_FILENO,
+            b"check_exchange: standard input can't be read\n",
+        );
+        return;
+    }
+    let n = input.count;
+
+    let mut line = line_buffer();
+    let length = answer_exchange_line(&file[..n], &mut line);
+    if length == 0 || !io::write_all(STDOUT_FILENO, &line[..length]) {
+        io::write_all(
+            STDERR_FILENO,
+            b"check_exchange: the line can't be written\n",
+        );
+    }
+}

@@ -1,0 +1,2 @@
+-- Which of the named files are exchange files.
+pub mod EndsWith
