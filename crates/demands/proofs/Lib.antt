@@ -1,0 +1,4 @@
+-- The theorems whose statements are in specs/.
+pub mod Releases
+pub mod Samples
+pub mod Demands

@@ -1,0 +1,23 @@
+-- The samples marked m hold, by computation (specs/Samples.antt). Assumes nothing.
+use mathlib.Core.Path.{refl}
+use Rattle.table.specs.Entry.{entry}
+use Rattle.table.specs.First.{first}
+use Rattle.table.specs.Tests.{entries, wrongEntry, repeatedEntry}
+use Rattle.steps.specs.Obligation.{holds}
+use Rattle.steps.specs.Step.{opens, step}
+use Rattle.steps.specs.Run.{walk, run}
+use Rattle.text.specs.Ascii.{ascii}
+use Rattle.text.specs.Decimal.{digits, decimal}
+use Rattle.file.specs.Words.{fileWords, fileOf}
+use Rattle.file.specs.Refusals.{firstRefusal}
+use Rattle.signers.specs.Signers.{joinedAll, signers}
+use Rattle.record.specs.Answer.{recordAnswer}
+use Rattle.exchange.specs.Answer.{exchangeAnswer}
+use Rattle.line.specs.RefusedLine.{refusedLine}
+use Rattle.line.specs.RecordLine.{listed, recordLine}
+use Rattle.line.specs.ExchangeLine.{exchangeLine}
+use Rattle.demands.specs.Samples.{MarkedSamples}
+
+pub marked-samples : MarkedSamples
+unfolding listed recordLine refusedLine exchangeLine ascii decimal digits recordAnswer exchangeAnswer fileWords fileOf firstRefusal wrongEntry repeatedEntry first joinedAll signers run walk step opens holds entries entry
+marked-samples = refl

@@ -1,0 +1,1 @@
+// Where the demands come together: definitions and theorems, and no code.
