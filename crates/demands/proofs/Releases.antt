@@ -7,7 +7,7 @@ use mathlib.Core.List.{List, [], _∷_, _++_, List·Memᴰ·head, List·Memᴰ·
 use Rattle.logic.specs.Proposition.{Proposition, atom, false, _implies_, _and_, _or_, _says_}
 use Rattle.logic.specs.Hypotheses.{_∈_, _⊆_}
 use Rattle.logic.specs.Misreadings.{SignedBy, Anybody}
-use Rattle.logic.specs.Figure1.{HasProof, EqualInForce}
+use Rattle.logic.specs.Figure1.{HasProof}
 use Rattle.logic.proofs.Hypotheses.{⊆-left, ⊆-right}
 use Rattle.logic.proofs.Figure1.{figure1}
 use Rattle.record.proofs.Granted.{granted-exactly}

@@ -1,7 +1,7 @@
 -- A file is found equal exactly when it keeps the layout and its limits and carries all proofs, and so only where its lists are equal in force
 -- (specs/Promises.antt). Assumes nothing.
 use Prim.Native.Nat.{ℕ}
-use mathlib.Core.Path.{_≡_, refl, ap, sym, subst, _∙_}
+use mathlib.Core.Path.{ap, sym, subst, _∙_}
 use mathlib.Core.Logic.{⊎-elim}
 use mathlib.Core.List.{List, [], _∷_, List·Memᴰ·cases-cons, List·Memᴰ·not-nil}
 use lib.ListN.{length}

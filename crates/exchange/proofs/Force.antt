@@ -1,7 +1,7 @@
 -- Demand 3 over a table (specs/Force.antt): what the logic promises of propositions, for the numbers that spell them. Assumes nothing.
 use Prim.Native.Nat.{ℕ}
 use mathlib.Core.Path.{subst}
-use mathlib.Core.List.{List, _++_, map, map-append, Memᴰ·map, Memᴰ·of-map}
+use mathlib.Core.List.{List, _++_, map-append, Memᴰ·map, Memᴰ·of-map}
 use Rattle.logic.specs.Figure1.{HasProof}
 use Rattle.logic.specs.Hypotheses.{_∈_, _⊆_}
 use Rattle.logic.specs.Figure1 as Logic

@@ -1,5 +1,5 @@
 -- The code of a refusal (specs/RefusalCode.antt): what its halves are, and that it tells refusals apart. Assumes nothing.
-use Prim.Native.Nat.{ℕ, _/_, _%_, _≤_, _<_}
+use Prim.Native.Nat.{ℕ, _/_, _%_, _≤_}
 use native.Mathlib.Omega.{arith}
 use mathlib.Core.Path.{_≡_}
 use Rattle.table.specs.Limits.{mostSteps}

@@ -2,7 +2,7 @@
 use Prim.Native.Nat.{ℕ, _≤_, _<_}
 use native.Mathlib.Omega.{arith}
 use mathlib.Core.Bool.{Bool, true, false}
-use mathlib.Core.Path.{_≡_, sym, ap, _∙_}
+use mathlib.Core.Path.{_≡_, sym, _∙_}
 use mathlib.Core.List.{List, [], _∷_}
 use lib.ListN.{length}
 use lib.Dec.{ltb, leb}
@@ -11,19 +11,16 @@ use Rattle.table.specs.declared.place.Place.{Place}
 use Rattle.table.specs.declared.place.Place.the-variants.{At, Nowhere}
 use Rattle.table.specs.declared.check.Tested.{Tested}
 use Rattle.table.specs.declared.check.Tested.the-variants.{Passed, Refused}
-use Rattle.table.specs.Choice.{pick}
-use Rattle.table.specs.Tests.{entries, wrongEntry, repeatedEntry, tableTests}
+use Rattle.table.specs.Tests.{entries, tableTests}
 use Rattle.file.specs.Refusals.{Test, test, at0, firstRefusal}
 use Rattle.file.specs.Tests.{outside}
-use Rattle.file.proofs.Refusals.{applies, goes-on, applies-at-0, goes-on-at-0, joined-refused, joined-passed, none-left}
+use Rattle.file.proofs.TableTests as Table
+use Rattle.file.proofs.Refusals.{applies, goes-on, applies-at-0, goes-on-at-0, none-left}
 use Rattle.signers.specs.Signers.{signers}
 use Rattle.record.specs.Parts.{arrayTests, SizedTable}
 
 module _ (heads seconds statements : List ℕ) (goal room : ℕ) (sized : SizedTable heads seconds) {t : Tested} (answered : t ≡ tableTests heads seconds) where
-  -- 4 and 5, which `check_table` makes, and those that follow
-  abbrev table-tests : List Test
-  table-tests = test 4 (wrongEntry (entries heads seconds)) ∷ test 5 (repeatedEntry heads seconds) ∷ []
-
+  -- the tests that follow 4 and 5, which `check_table` makes
   abbrev from-8 : List Test
   from-8 = test 8 (at0 (ltb room (length (signers (entries heads seconds) statements)))) ∷ []
 
@@ -36,17 +33,12 @@ module _ (heads seconds statements : List ℕ) (goal room : ℕ) (sized : SizedT
   abbrev all : Tested
   all = arrayTests heads seconds statements goal room
 
-  -- what `check_table` answers of a table whose size 2 allows
-  table-answer : t ≡ firstRefusal table-tests
-  unfolding tableTests firstRefusal
-  table-answer = answered ∙ ap (λ (b : Bool). pick b (firstRefusal table-tests) (Refused 2 0)) sized
-
   pub refused-4-5 : {number p : ℕ} → t ≡ Refused number p → Refused number p ≡ all
-  refused-4-5 e = sym (joined-refused table-tests from-6 (sym table-answer ∙ e))
+  refused-4-5 = Table.refused-4-5 heads seconds sized answered from-6
 
   module _ (passed : t ≡ Passed) where
     after-5 : all ≡ firstRefusal from-6
-    after-5 = joined-passed table-tests from-6 (sym table-answer ∙ passed)
+    after-5 = Table.after-4-5 heads seconds sized answered from-6 passed
 
     pub refused-6 : {more : Bool} → more ≡ leb (length heads) goal → more ≡ true → Refused 6 0 ≡ all
     refused-6 asked e = sym (after-5 ∙ applies-at-0 6 from-7 (sym asked ∙ e))
