@@ -41,7 +41,9 @@ uint64_t wethrynda_check_record(const uint8_t *file, size_t file_length, uint16_
  * below take apart. It makes every test itself and always answers: it allocates nothing, reads and writes no file, and keeps nothing from call to
  * call. What is lent, the file, is not changed.
  *
- * Equal: the file proves each statement of the second list from the first list, and each of the first from the second.
+ * Equal: the file proves each statement of the second list from the first list, and each of the first from the second; so the two lists are equal
+ * in force: whatever has a proof from one has a proof from the other.
+ * Refused: this file does not show it. The lists may be equal in force all the same.
  *
  * What the caller sees to, for nothing can test it:
  * - The pointer is not null, even where the length is 0. A pointer to any object will do there.
@@ -51,13 +53,13 @@ uint64_t wethrynda_check_record(const uint8_t *file, size_t file_length, uint16_
  */
 uint64_t wethrynda_check_exchange(const uint8_t *file, size_t file_length);
 
-/* Whether the record is granted; else it is refused. */
+/* Of an answer of wethrynda_check_record only: whether the record is granted; else it is refused. */
 static inline bool wethrynda_is_granted(uint64_t answer) { return answer >> 32 == 0; }
 
 /* Of a granted record: how many signers it has. */
 static inline uint32_t wethrynda_count(uint64_t answer) { return (uint32_t)(answer & 0xffffffffu); }
 
-/* Whether the two lists of the exchange file are equal; else it is refused. */
+/* Of an answer of wethrynda_check_exchange only: whether the file shows that its lists are equal in force; else it is refused. */
 static inline bool wethrynda_is_equal(uint64_t answer) { return answer >> 32 == 0; }
 
 /* Of a refused record or exchange file: the refusal's number, 1 to 15, which says why (samples/README.md has the list). 0 if it is not refused. */

@@ -15,9 +15,10 @@ pub enum Verdict {
 /// What the check of an exchange file answers.
 #[derive(Clone, Copy, Debug, PartialEq, Eq)]
 pub enum Exchange {
-    /// The file proves each statement of its second list from its first list, and each of the first from the second.
+    /// The file proves each statement of its second list from its first list, and each of the first from the second; so the two lists are equal in
+    /// force: whatever has a proof from one has a proof from the other.
     Equal,
-    /// The file is refused, by the first reason that applies: its number, from 1 to 15 but not 6 or 8, and the place where it was found, counted
+    /// The file does not show it; the lists may be equal in force all the same. It is refused by the first reason that applies: its number, from 1 to 15 but not 6 or 8, and the place where it was found, counted
     /// from 0, statements through the first list and then the second, steps through all proofs.
     Refused { number: u8, place: usize },
 }

@@ -10,7 +10,7 @@ use Rattle.record.specs.Layout.{signers}
 use Rattle.record.specs.Answer.{recordAnswer}
 use Rattle.record.specs.Samples.{overT}
 use Rattle.exchange.specs.Answer.{exchangeAnswer}
-use Rattle.exchange.specs.Samples.{exchangeOf}
+use Rattle.exchange.specs.Samples.{K}
 use Rattle.line.specs.RecordLine.{recordLine}
 use Rattle.line.specs.ExchangeLine.{exchangeLine}
 
@@ -31,8 +31,7 @@ abbrev pub _prints_ : File → String → Sample
 _prints_ file line = record { file = file; line = line }
 
 infix 75 _prints_
--- | | statements | goal | steps | answer |, over table T; record A as 01 writes it out; and K: "table atom 0, atom 1, their and .. lists [2] and
--- [0, 1], steps 24578 0 24578 1 20480 0 1: equal".
+-- | | statements | goal | steps | answer |, over table T; record A as 01 writes it out; and K, whose words are in exchange/specs/Samples.antt.
 abbrev pub marked : List Sample
 marked =
     a-record (2 ∷ 1 ∷ 4 ∷ 1 ∷ 0 ∷ 20487 ∷ 0 ∷ 0 ∷ 1 ∷ 40960 ∷ 45057 ∷ 4096 ∷ 0 ∷ []) prints "granted 1 7\n"
@@ -43,7 +42,7 @@ marked =
     ∷ a-record (overT [] 0 (0 ∷ [])) prints "refused 12 place 0\n"
     ∷ a-record (overT (0 ∷ []) 1 (40960 ∷ 4096 ∷ [])) prints "refused 9 place 2\n"
     ∷ a-record (overT (0 ∷ []) 1 (40960 ∷ 4096 ∷ 0 ∷ 0 ∷ [])) prints "refused 15 place 3\n"
-    ∷ an-exchange (exchangeOf (0 ∷ 1 ∷ 12288 ∷ []) (0 ∷ 0 ∷ 1 ∷ []) (2 ∷ []) (0 ∷ 1 ∷ []) (24578 ∷ 0 ∷ 24578 ∷ 1 ∷ 20480 ∷ 0 ∷ 1 ∷ [])) prints "equal\n"
+    ∷ an-exchange K prints "equal\n"
     ∷ []
 
 abbrev pub MarkedSamples : Type 0

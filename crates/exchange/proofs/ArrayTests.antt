@@ -9,10 +9,10 @@ use Rattle.table.specs.declared.check.Tested.{Tested}
 use Rattle.table.specs.declared.check.Tested.the-variants.{Passed, Refused}
 use Rattle.table.specs.Tests.{tableTests}
 use Rattle.file.specs.Refusals.{Test, test, firstRefusal}
-use Rattle.file.specs.Tests.{outside}
+use Rattle.file.specs.Tests.{SizedTable, outside}
 use Rattle.file.proofs.TableTests as Table
 use Rattle.file.proofs.Refusals.{applies, goes-on, none-left}
-use Rattle.exchange.specs.Parts.{arrayTests, SizedTable}
+use Rattle.exchange.specs.Parts.{arrayTests}
 
 module _ (heads seconds lists : List ℕ) (sized : SizedTable heads seconds) {t : Tested} (answered : t ≡ tableTests heads seconds) where
   -- the test that follows 4 and 5, which `check_table` makes

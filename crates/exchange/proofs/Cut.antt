@@ -7,10 +7,11 @@ use lib.ListN.{length, take, drop}
 use Rattle.lent.specs.Written.{written}
 use Rattle.lent.proofs.Written.{written-length}
 use Rattle.file.specs.Words.{fileWords}
+use Rattle.file.specs.Tests.{SizedTable}
 use Rattle.file.proofs.Parts.{part-joined, cut}
 use Rattle.exchange.specs.declared.layout.Sizes.{Sizes}
 use Rattle.exchange.specs.Layout.{formulas, firstCount, secondCount, stepCount, heads, seconds, firstList, secondList, steps}
-use Rattle.exchange.specs.Parts.{mostWords, sizesOf, SizedTable}
+use Rattle.exchange.specs.Parts.{mostWords, sizesOf}
 use Rattle.exchange.specs.Proofs.{Sized}
 use Rattle.exchange.proofs.Lengths.{length-words, sized-table}
 

@@ -17,13 +17,13 @@ use Rattle.table.specs.Tests.{entries}
 use Rattle.steps.specs.declared.verdict.Verdict.{Verdict}
 use Rattle.steps.specs.declared.verdict.Verdict.the-variants as Steps
 use Rattle.steps.specs.Obligation.{dues}
-use Rattle.steps.specs.Run.{run, allUsed}
+use Rattle.steps.specs.Run.{run, allUsed, tested}
 use Rattle.steps.specs.Figure1.{same, walk}
 use Rattle.steps.specs.Parts.{andThen, later, walkFrom}
 use Rattle.steps.proofs.Parts.{one-after-another, places-move, uses-words}
 use Rattle.steps.proofs.Figure1.{refused-in-range}
 use Rattle.proof.specs.Answer.{proofsAnswer}
-use Rattle.exchange.specs.Parts.{tested, stepTests}
+use Rattle.exchange.specs.Parts.{stepTests}
 
 -- The code got the verdict v on the proofs of the second list from the first.
 module _ (heads seconds some others steps : List ℕ) {v : Verdict} (answered : v ≡ proofsAnswer heads seconds some others steps) where
@@ -41,9 +41,9 @@ module _ (heads seconds some others steps : List ℕ) {v : Verdict} (answered : 
   both-lists : ended (andThen v (λ q. walkFrom same mostDepth es steps q (dues others some))) ≡ all
   unfolding run
   both-lists =
-      let second-list = dues others some in
-      ap (λ (w : Verdict). ended (andThen w (λ q. walkFrom same mostDepth es steps q second-list))) answered
-      ∙ ap ended (sym (one-after-another same mostDepth es steps 0 (dues some others) second-list))
+      let of-the-first = dues others some in
+      ap (λ (w : Verdict). ended (andThen w (λ q. walkFrom same mostDepth es steps q of-the-first))) answered
+      ∙ ap ended (sym (one-after-another same mostDepth es steps 0 (dues some others) of-the-first))
 
   pub first-refused : {number p : ℕ} → v ≡ Steps.Refused number p → Refused number p ≡ all
   first-refused e = ap (λ (w : Verdict). ended (andThen w (λ q. walkFrom same mostDepth es steps q (dues others some)))) (sym e) ∙ both-lists

@@ -8,6 +8,7 @@ use Rattle.table.specs.declared.check.Tested.the-variants as T
 use Rattle.table.specs.Tests.{wrongEntry, repeatedEntry}
 use Rattle.steps.specs.declared.verdict.Verdict as Step
 use Rattle.steps.specs.declared.verdict.Verdict.the-variants as Steps
+use Rattle.steps.specs.Run.{tested}
 use Rattle.file.specs.Refusals.{Test, test, firstRefusal}
 use Rattle.file.specs.Tests as Shared
 use Rattle.file.proofs.Refusals.{passed-by-all, joined-refused, joined-passed}
@@ -15,7 +16,7 @@ use Rattle.exchange.specs.declared.verdict.Verdict.{Verdict}
 use Rattle.exchange.specs.declared.verdict.Verdict.the-variants.{Equal, Refused}
 use Rattle.exchange.specs.Layout.{formulas, firstCount, secondCount, stepCount, heads, seconds, firstList, secondList, steps, size, table}
 use Rattle.exchange.specs.Answer.{inRange, statementOutside, tests, stepVerdict, afterTests, afterSteps, exchangeAnswer}
-use Rattle.exchange.specs.Parts.{layoutTests, arrayTests, tested, arraysAnswer}
+use Rattle.exchange.specs.Parts.{layoutTests, arrayTests, arraysAnswer}
 use Rattle.exchange.specs.Proofs.{Sized}
 use Rattle.exchange.proofs.Lengths.{length-heads}
 use Rattle.exchange.proofs.Keeps.{sized}

@@ -7,7 +7,7 @@ use lib.ListN.{length}
 use lib.Dec.{eqb, leb}
 use Rattle.table.specs.declared.place.Place.{Place}
 use Rattle.table.specs.declared.check.Tested.{Tested}
-use Rattle.table.specs.declared.check.Tested.the-variants as Test
+use Rattle.table.specs.declared.check.Tested.the-variants as T
 use Rattle.table.specs.Limits.{mostFormulas, mostStatements, mostSteps}
 use Rattle.table.specs.Choice.{both}
 use Rattle.table.specs.Tests.{wrongEntry, repeatedEntry}
@@ -59,8 +59,8 @@ stepVerdict file = run (table file) (steps file) (obligations file)
 
 -- a refusal stands, and what follows it doesn't count
 abbrev pub afterTests : Tested → Verdict → Verdict
-afterTests Test.Passed next = next
-afterTests (Test.Refused number place) next = Refused number place
+afterTests T.Passed next = next
+afterTests (T.Refused number place) next = Refused number place
 
 abbrev pub afterSteps : Step.Verdict → Verdict → Verdict
 afterSteps (Steps.Closed q) next = next

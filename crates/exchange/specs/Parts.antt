@@ -1,17 +1,13 @@
 -- What the private functions of the check answer: the tests in three parts, 1 to 3 over the file, 4 to 7 over its arrays, 9 to 15 over the steps.
 -- Together they are `exchangeAnswer`. Assumes nothing.
 use Prim.Native.Nat.{ℕ, _+_, _*_}
-use mathlib.Core.Bool.{true}
-use mathlib.Core.Path.{_≡_}
 use mathlib.Core.List.{List, [], _∷_, _++_}
 use lib.ListN.{length}
 use Rattle.table.specs.declared.check.Tested.{Tested}
-use Rattle.table.specs.declared.check.Tested.the-variants as T
 use Rattle.table.specs.Limits.{mostFormulas, mostStatements, mostSteps}
-use Rattle.table.specs.Tests.{entries, sized, wrongEntry, repeatedEntry}
-use Rattle.steps.specs.declared.verdict.Verdict as Step
-use Rattle.steps.specs.declared.verdict.Verdict.the-variants as Steps
+use Rattle.table.specs.Tests.{entries, wrongEntry, repeatedEntry}
 use Rattle.steps.specs.Obligation.{dues}
+use Rattle.steps.specs.Run.{tested}
 use Rattle.steps.specs.Figure1.{run}
 use Rattle.file.specs.Refusals.{test, firstRefusal}
 use Rattle.file.specs.Tests as Shared
@@ -41,10 +37,6 @@ arrayTests heads seconds lists =
     firstRefusal (test 4 (wrongEntry (entries heads seconds)) ∷ test 5 (repeatedEntry heads seconds) ∷ test 7 (outside (length heads) lists) ∷ [])
 
 -- 9 to 15
-abbrev pub tested : Step.Verdict → Tested
-tested (Steps.Closed q) = T.Passed
-tested (Steps.Refused number place) = T.Refused number place
-
 abbrev pub stepTests : List ℕ → List ℕ → List ℕ → List ℕ → List ℕ → Tested
 stepTests heads seconds some others steps = tested (run (entries heads seconds) steps (dues some others ++ dues others some))
 
@@ -52,7 +44,3 @@ stepTests heads seconds some others steps = tested (run (entries heads seconds) 
 abbrev pub arraysAnswer : List ℕ → List ℕ → List ℕ → List ℕ → List ℕ → List ℕ → Verdict
 arraysAnswer heads seconds lists some others steps =
     afterTests (arrayTests heads seconds lists) (afterTests (stepTests heads seconds some others steps) Equal)
-
--- two arrays of the length that 2 asks of a table
-abbrev pub SizedTable : List ℕ → List ℕ → Type 0
-SizedTable heads seconds = sized heads seconds ≡ true

@@ -31,7 +31,8 @@ abbrev pub EmptyListsEqual : Type 0
 EmptyListsEqual =
     (file : List ℕ) → Keeps file → firstCount file ≡ 0 → secondCount file ≡ 0 → stepCount file ≡ 0 → exchangeAnswer file ≡ Equal
 
--- "one for every position, so a statement that stands twice is proved twice" (01): a file with fewer steps than positions is never found equal.
+-- "one for every position, so a statement that stands twice is proved twice" (01): `EqualExactly` has a derivation for every position. Each has a
+-- word at least, so a file with fewer steps than positions is never found equal.
 abbrev pub ProvedAtEachPosition : Type 0
 ProvedAtEachPosition = (file : List ℕ) → exchangeAnswer file ≡ Equal → firstCount file + secondCount file ≤ stepCount file
 

@@ -37,8 +37,8 @@ abbrev pub overAtom : List ℕ → List ℕ → List ℕ → List ℕ
 overAtom some others steps = exchangeOf (0 ∷ []) (0 ∷ []) some others steps
 
 -- K. "L: table of atom 0, lists [] and [0], step 0: refused 12 at 0. M: a table of entries 0 and 0: refused 5 at 1. N: first entry 20487 with
--- second 0: refused 4 at 0." "Two empty lists with N = 0 are equal." "a statement that stands twice is proved twice": proved three times in all,
--- and twice.
+-- second 0: refused 4 at 0." "Two empty lists with N = 0 are equal." "a statement that stands twice is proved twice": [0, 0] and [0] with three proofs,
+-- equal, and with two.
 abbrev pub rows : List Sample
 rows =
     row K Equal
@@ -54,7 +54,7 @@ abbrev pub Samples : Type 0
 Samples = Hold rows
 
 -- Where two tests apply, the first counts, and no 6 nor 8 is among them. In order: no byte at all; F is 0, and the length is wrong; 257 statements
--- in the first list, and in the second; a word too many; a repeated entry at 1 and a wrong one at 2; and 7 through both lists: at 1 in the first, at
+-- in the first list, and in the second; 16,385 steps; a word too many; a repeated entry at 1 and a wrong one at 2; and 7 through both lists: at 1 in the first, at
 -- 1 + 0 and 1 + 1 in the second, and in both, before any step.
 abbrev pub order : List Sample
 order =

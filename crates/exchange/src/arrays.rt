@@ -1,6 +1,7 @@
 // Tests 4, 5 and 7: the table, and the statements' numbers.
 ghost use mathlib.Core.Path.{_≡_};
-ghost use Rattle.exchange.specs.Parts.{arrayTests, SizedTable};
+ghost use Rattle.file.specs.Tests.{SizedTable};
+ghost use Rattle.exchange.specs.Parts.{arrayTests};
 use file::numbers::first_outside;
 use table::check::Tested;
 use table::check::check_table;

@@ -2,8 +2,9 @@
 ghost use Prim.Native.Nat.{_≤_};
 ghost use mathlib.Core.Path.{_≡_};
 ghost use lib.ListN.{length};
+ghost use Rattle.file.specs.Tests.{SizedTable};
 ghost use Rattle.exchange.specs.Answer.{exchangeAnswer};
-ghost use Rattle.exchange.specs.Parts.{mostWords, arraysAnswer, SizedTable};
+ghost use Rattle.exchange.specs.Parts.{mostWords, arraysAnswer};
 ghost use Rattle.exchange.specs.Proofs.{Sized};
 use crate::arrays::check_arrays;
 use crate::ending::check_steps;
@@ -58,7 +59,8 @@ fn check_sized(file: &[u8], words: &mut [u16]) -> Verdict
     )
 }
 
-// The answer for a file of any bytes and length. Nothing is lent but the file, which is only read.
+// The answer for a file of any bytes and length: equal exactly where it carries all proofs (`EqualExactly`), and so only for lists equal in force.
+// Nothing is lent but the file, which is only read.
 pub fn check_exchange(file: &[u8]) -> Verdict
     ensures { λ r. ⌜ r ≡ exchangeAnswer (now (file .entry)) ⌝ }
 {

@@ -4,7 +4,7 @@ use Prim.Native.Nat.{ℕ, _≤_, _<_}
 use native.Mathlib.Omega.{arith}
 use mathlib.Core.Bool.{Bool, true, false, not}
 use mathlib.Core.Path.{_≡_, sym, ap, _∙_}
-use mathlib.Core.Logic.{_↔_, Iff·trans, _≢_}
+use mathlib.Core.Logic.{_↔_, _≢_}
 use mathlib.Core.List.{List, [], _∷_}
 use lib.ListN.{length}
 use lib.Dec.{eqb}
@@ -12,7 +12,7 @@ use borrow.Author.Tests.{lt-ltb, le-ltb, eq-eqb, ne-eqb}
 use Rattle.table.specs.declared.check.Tested.the-variants.{Passed, Refused}
 use Rattle.file.specs.Refusals.{test, at0, firstRefusal, NoneApplies}
 use Rattle.file.specs.Tests.{layoutTests}
-use Rattle.file.proofs.Refusals.{passed-by-all, applies-at-0, goes-on-at-0, none-left}
+use Rattle.file.proofs.Refusals.{applies-at-0, goes-on-at-0, none-left}
 use Rattle.file.proofs.Asked.{not-less, equal, not-other, at0-nowhere}
 
 module _ (file : List ℕ) (fit : Bool) (size : ℕ) where
@@ -43,7 +43,7 @@ module _ (file : List ℕ) (fit : Bool) (size : ℕ) where
 
   -- ---- where they pass
 
-  -- None of them applies exactly when the sizes are in range and the length is theirs, where they ask for 8 bytes at least;
+  -- None of them applies exactly when the sizes are in range and the length is theirs, where they ask for 8 bytes at least.
   pub none-to-3 : 8 ≤ size → NoneApplies (layoutTests file fit size) ↔ ((fit ≡ true) × (length file ≡ size))
   none-to-3 some =
       let long = at0-nowhere _ (not-less (length file) 8) in
@@ -52,7 +52,3 @@ module _ (file : List ℕ) (fit : Bool) (size : ℕ) where
         λ (one, (two, (three, _))). (range .0 two, fits .0 three),
         λ (in-range, is). (long .1 (omega arith), (range .1 in-range, (fits .1 is, tt))),
       )
-
-  -- so they let pass.
-  pub sized-passed : 8 ≤ size → firstRefusal (layoutTests file fit size) ≡ Passed ↔ ((fit ≡ true) × (length file ≡ size))
-  sized-passed some = Iff·trans (passed-by-all (layoutTests file fit size)) (none-to-3 some)

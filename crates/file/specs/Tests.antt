@@ -1,6 +1,6 @@
 -- Tests 1 to 3, 5 and 7 as records and exchange files share them. Proved in proofs/Outside.antt and proofs/Unlike.antt. Assumes nothing.
 use Prim.Native.Nat.{ℕ, _<_}
-use mathlib.Core.Bool.{Bool, not}
+use mathlib.Core.Bool.{Bool, true, not}
 use mathlib.Core.Path.{_≡_}
 use mathlib.Core.Logic.{_↔_}
 use mathlib.Core.List.{List, [], _∷_}
@@ -10,7 +10,7 @@ use Rattle.logic.specs.Hypotheses.{_∈_}
 use Rattle.table.specs.declared.place.Place.{Place}
 use Rattle.table.specs.declared.place.Place.the-variants.{Nowhere}
 use Rattle.table.specs.First.{first}
-use Rattle.table.specs.Tests.{repeatedEntry}
+use Rattle.table.specs.Tests.{sized, repeatedEntry}
 use Rattle.file.specs.Refusals.{Test, test, at0}
 
 -- "1. The file has fewer than 8 bytes (place 0)."
@@ -20,6 +20,10 @@ tooShort file = at0 (ltb (length file) 8)
 -- 1 to 3 of a file, by whether its sizes are in range and the length that they ask for
 abbrev pub layoutTests : List ℕ → Bool → ℕ → List Test
 layoutTests file fit size = test 1 (tooShort file) ∷ test 2 (at0 (not fit)) ∷ test 3 (at0 (not (eqb (length file) size))) ∷ []
+
+-- two arrays of the length that 2 asks of a table: what private functions of both checks ask of their callers
+abbrev pub SizedTable : List ℕ → List ℕ → Type 0
+SizedTable heads seconds = sized heads seconds ≡ true
 
 -- the first position of a number of F or more
 abbrev pub outside : ℕ → List ℕ → Place

@@ -13,11 +13,11 @@ use Rattle.table.specs.declared.check.Tested.{Tested}
 use Rattle.table.specs.declared.check.Tested.the-variants.{Passed, Refused}
 use Rattle.table.specs.Tests.{entries, tableTests}
 use Rattle.file.specs.Refusals.{Test, test, at0, firstRefusal}
-use Rattle.file.specs.Tests.{outside}
+use Rattle.file.specs.Tests.{SizedTable, outside}
 use Rattle.file.proofs.TableTests as Table
 use Rattle.file.proofs.Refusals.{applies, goes-on, applies-at-0, goes-on-at-0, none-left}
 use Rattle.signers.specs.Signers.{signers}
-use Rattle.record.specs.Parts.{arrayTests, SizedTable}
+use Rattle.record.specs.Parts.{arrayTests}
 
 module _ (heads seconds statements : List ℕ) (goal room : ℕ) (sized : SizedTable heads seconds) {t : Tested} (answered : t ≡ tableTests heads seconds) where
   -- the tests that follow 4 and 5, which `check_table` makes

@@ -7,10 +7,11 @@ use lib.ListN.{length, take, drop}
 use Rattle.lent.specs.Written.{written}
 use Rattle.lent.proofs.Written.{written-length}
 use Rattle.file.specs.Words.{fileWords}
+use Rattle.file.specs.Tests.{SizedTable}
 use Rattle.file.proofs.Parts.{cut}
 use Rattle.record.specs.declared.layout.Sizes.{Sizes}
 use Rattle.record.specs.Layout.{formulas, statementCount, stepCount, heads, seconds, statements, steps}
-use Rattle.record.specs.Parts.{mostWords, sizesOf, SizedTable}
+use Rattle.record.specs.Parts.{mostWords, sizesOf}
 use Rattle.record.specs.Proof.{Sized}
 use Rattle.record.proofs.Lengths.{length-words, sized-table}
 

@@ -12,11 +12,11 @@ use Rattle.table.specs.Tests.{entries}
 use Rattle.steps.specs.declared.verdict.Verdict as Step
 use Rattle.steps.specs.declared.verdict.Verdict.the-variants as Steps
 use Rattle.steps.specs.Obligation.{due}
-use Rattle.steps.specs.Run.{run, allUsed}
+use Rattle.steps.specs.Run.{run, allUsed, tested}
 use Rattle.steps.specs.Figure1.{same}
 use Rattle.steps.proofs.Parts.{uses-words}
 use Rattle.proof.specs.Answer.{proofAnswer}
-use Rattle.record.specs.Parts.{tested, stepTests}
+use Rattle.record.specs.Parts.{stepTests}
 
 module _
     (heads seconds statements : List ℕ) (goal : ℕ) (steps : List ℕ) {v : Step.Verdict} (answered : v ≡ proofAnswer heads seconds statements goal steps)

@@ -9,6 +9,7 @@ use Rattle.table.specs.declared.check.Tested.the-variants as T
 use Rattle.steps.specs.declared.verdict.Verdict as Step
 use Rattle.steps.specs.declared.verdict.Verdict.the-variants as Steps
 use Rattle.lent.proofs.Written.{written-fits}
+use Rattle.steps.specs.Run.{tested}
 use Rattle.file.specs.Refusals.{firstRefusal}
 use Rattle.file.proofs.Refusals.{passed-by-all, joined-refused, joined-passed}
 use Rattle.signers.proofs.Each.{signers-are}
@@ -17,7 +18,7 @@ use Rattle.record.specs.declared.verdict.Verdict.the-variants.{Granted, 
 use Rattle.record.specs.Layout.{goal, heads, seconds, statements, steps, table, signers}
 use Rattle.record.specs.Answer.{tests, stepVerdict, afterTests, afterSteps, recordAnswer}
 use Rattle.record.specs.Lent.{Left}
-use Rattle.record.specs.Parts.{firstTests, layoutTests, arrayTests, tested, arraysAnswer, listAfter}
+use Rattle.record.specs.Parts.{firstTests, layoutTests, arrayTests, arraysAnswer, listAfter}
 use Rattle.record.specs.Proof.{Sized}
 use Rattle.record.proofs.Lengths.{length-heads}
 use Rattle.record.proofs.Keeps.{sized, laterTests}

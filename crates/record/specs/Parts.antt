@@ -1,18 +1,14 @@
 -- What the private functions of the check answer: the tests in three parts, 1 to 3 over the file, 4 to 8 over its arrays, 9 to 15 over the steps.
 -- Together they are `recordAnswer`. Assumes nothing.
 use Prim.Native.Nat.{ℕ, _+_, _*_}
-use mathlib.Core.Bool.{true}
-use mathlib.Core.Path.{_≡_}
 use mathlib.Core.List.{List, [], _∷_}
 use lib.ListN.{length}
 use lib.Dec.{ltb, leb}
 use Rattle.table.specs.declared.check.Tested.{Tested}
-use Rattle.table.specs.declared.check.Tested.the-variants as T
 use Rattle.table.specs.Limits.{mostFormulas, mostStatements, mostSteps}
-use Rattle.table.specs.Tests.{entries, sized, wrongEntry, repeatedEntry}
-use Rattle.steps.specs.declared.verdict.Verdict as Step
-use Rattle.steps.specs.declared.verdict.Verdict.the-variants as Steps
+use Rattle.table.specs.Tests.{entries, wrongEntry, repeatedEntry}
 use Rattle.steps.specs.Obligation.{due}
+use Rattle.steps.specs.Run.{tested}
 use Rattle.steps.specs.Figure1.{run}
 use Rattle.lent.specs.Written.{written}
 use Rattle.file.specs.Refusals.{Test, test, at0, firstRefusal}
@@ -51,10 +47,6 @@ arrayTests heads seconds statements goal room =
     ∷ [])
 
 -- 9 to 15
-abbrev pub tested : Step.Verdict → Tested
-tested (Steps.Closed q) = T.Passed
-tested (Steps.Refused number place) = T.Refused number place
-
 abbrev pub stepTests : List ℕ → List ℕ → List ℕ → ℕ → List ℕ → Tested
 stepTests heads seconds statements goal steps = tested (run (entries heads seconds) steps (due statements goal ∷ []))
 
@@ -72,7 +64,3 @@ arraysAnswer heads seconds statements goal steps room =
 abbrev pub listAfter : Verdict → List ℕ → List ℕ → List ℕ → List ℕ → List ℕ
 listAfter (Granted count) heads seconds statements before = written before (signers (entries heads seconds) statements)
 listAfter (Refused number place) heads seconds statements before = before
-
--- two arrays of the length that 2 asks of a table
-abbrev pub SizedTable : List ℕ → List ℕ → Type 0
-SizedTable heads seconds = sized heads seconds ≡ true

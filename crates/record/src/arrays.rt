@@ -1,6 +1,7 @@
 // Tests 4 to 8: the table, the goal's and the statements' numbers, and the room for the signers.
 ghost use mathlib.Core.Path.{_≡_};
-ghost use Rattle.record.specs.Parts.{arrayTests, SizedTable};
+ghost use Rattle.file.specs.Tests.{SizedTable};
+ghost use Rattle.record.specs.Parts.{arrayTests};
 use file::numbers::first_outside;
 use file::numbers::is_outside;
 use signers::collect::signer_count;

@@ -2,9 +2,10 @@
 ghost use Prim.Native.Nat.{_≤_};
 ghost use mathlib.Core.Path.{_≡_};
 ghost use lib.ListN.{length};
+ghost use Rattle.file.specs.Tests.{SizedTable};
 ghost use Rattle.record.specs.Answer.{recordAnswer};
 ghost use Rattle.record.specs.Lent.{Left};
-ghost use Rattle.record.specs.Parts.{mostWords, granted, arraysAnswer, listAfter, SizedTable};
+ghost use Rattle.record.specs.Parts.{mostWords, granted, arraysAnswer, listAfter};
 ghost use Rattle.record.specs.Proof.{Sized};
 use crate::arrays::check_arrays;
 use crate::ending::check_steps;

@@ -2,7 +2,7 @@
 use Prim.Native.Nat.{ℕ, zero, suc, _+_, _<_, _/_, _%_}
 use native.Mathlib.Omega.{arith}
 use native.Mathlib.Nat.{add-zero, add-suc, suc-add}
-use mathlib.Core.Bool.{Bool, true, false, not}
+use mathlib.Core.Bool.{Bool, true, false}
 use mathlib.Core.Path.{_≡_, refl, sym, ap, _∙_}
 use mathlib.Core.List.{List, [], _∷_}
 use lib.ListN.{getD}
@@ -13,7 +13,7 @@ use Rattle.table.specs.Choice.{pick}
 use Rattle.table.proofs.Choice.{pick-cases}
 use Rattle.table.specs.Limits.{mostFormulas}
 use Rattle.steps.specs.declared.goal.Goal.{Goal}
-use Rattle.steps.specs.Obligation.{Obligation, holds}
+use Rattle.steps.specs.Obligation.{holds}
 use Rattle.steps.specs.Step.{Rule, names, plain, unknown, rules, applied, opens, step}
 use Rattle.steps.specs.Figure1 as Figure1
 use Rattle.steps.specs.Figure1.{same}

@@ -5,6 +5,8 @@ use mathlib.Core.List.{List, [], _∷_, _++_, map}
 use lib.ListN.{length}
 use lib.Dec.{eqb}
 use Rattle.table.specs.declared.entry.Entry.{Entry}
+use Rattle.table.specs.declared.check.Tested.{Tested}
+use Rattle.table.specs.declared.check.Tested.the-variants as T
 use Rattle.table.specs.Choice.{pick}
 use Rattle.steps.specs.declared.opened.Premise.{Premise}
 use Rattle.steps.specs.declared.opened.Opened as O
@@ -25,6 +27,11 @@ after (Opening.Two a b) refused next = next (a ∷ b ∷ [])
 abbrev pub allUsed : ℕ → Verdict → Verdict
 allUsed n (Closed p) = pick (eqb p n) (Closed p) (Refused 15 p)
 allUsed n (Refused number p) = Refused number p
+
+-- a verdict as a test's answer: closed lets pass
+abbrev pub tested : Verdict → Tested
+tested (Closed p) = T.Passed
+tested (Refused number p) = T.Refused number p
 
 module _ (speaks : ℕ → ℕ → Bool) (limit : ℕ) (es : List Entry) where
   -- "Tests 9 to 14 run in this order at each step, steps in file order": from place p, closed with the place after the last word used.
