@@ -11,6 +11,7 @@ mod records;
 mod sample;
 mod steps;
 mod table;
+mod three_halls;
 mod words;
 
 use sample::{Kind, Section};

@@ -3,13 +3,14 @@ use crate::record::Record;
 use crate::sample::{bare, sample, Kind, Section};
 use crate::steps::{step::*, Step};
 use crate::table::{Formula, Table};
+use crate::three_halls;
 
 fn record(table: &Table, statements: &[Formula], goal: Formula, steps: &[Step]) -> Record {
     Record { table: table.clone(), statements: statements.to_vec(), goal, steps: steps.to_vec() }
 }
 
 pub fn sections() -> Vec<Section<Record>> {
-    vec![of_document_01(), other_refusals(), class_errors(), misreadings(), signers()]
+    vec![of_document_01(), other_refusals(), class_errors(), misreadings(), signers(), three_halls::releases()]
 }
 
 /// "Record A uses entries 0 and 1 only": atom 0, and principal 7 says it.

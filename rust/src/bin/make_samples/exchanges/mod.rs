@@ -2,12 +2,12 @@
 mod files;
 mod force;
 mod proofs;
-mod three_halls;
 
 use crate::exchange::Exchange;
 use crate::sample::Section;
 use crate::steps::{step::*, Step};
 use crate::table::{Formula, Table};
+use crate::three_halls;
 
 fn exchange(table: &Table, first: &[Formula], second: &[Formula], proofs: &[&[Step]]) -> Exchange {
     let proofs = proofs.iter().map(|proof| proof.to_vec()).collect();
@@ -24,7 +24,7 @@ pub fn sections() -> Vec<Section<Exchange>> {
         proofs::depth(),
         force::misreadings(),
         force::equal_force(),
-        three_halls::section(),
+        three_halls::folds(),
     ]
 }
 

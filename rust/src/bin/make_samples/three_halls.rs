@@ -1,5 +1,6 @@
-//! The worked fold of docs/FOLDING.md: the standing orders of three machine halls, and one shorter list of equal force.
+//! The worked fold of docs/FOLDING.md: the standing orders of three machine halls, one shorter list of equal force, and an old release.
 use crate::exchange::Exchange;
+use crate::record::Record;
 use crate::sample::{bare, sample, Kind, Section};
 use crate::steps::{step::*, Step};
 use crate::table::{Formula, Table};
@@ -84,6 +85,11 @@ impl Orders {
         [&first[..], &second, &third].concat()
     }
 
+    /// One shorter list of equal force.
+    fn new(&self) -> Vec<Formula> {
+        vec![self.lab_counts, self.weigher_counts, self.release, self.waste_leaves]
+    }
+
     fn lab_counts(&self) -> Vec<Step> {
         on_word(self.lab_counts, self.lab_says, self.sound, self.sound)
     }
@@ -129,7 +135,7 @@ impl Orders {
 /// The fold that is equal: proofs of the new list from the old one, and then of the old one from the new.
 fn fold() -> Exchange {
     let orders = orders();
-    let second = vec![orders.lab_counts, orders.weigher_counts, orders.release, orders.waste_leaves];
+    let second = orders.new();
     let proofs = vec![
         orders.lab_counts(),
         orders.weigher_counts(),
@@ -190,11 +196,58 @@ fn proof_missing() -> Exchange {
     fold
 }
 
-pub fn section() -> Section<Exchange> {
+/// A release by these orders and the papers of the lab and the weigher.
+fn released(orders: &Orders, by: &[Formula], steps: Vec<Step>) -> Record {
+    let statements = [by, &[orders.lab_says, orders.weigher_says]].concat();
+    Record { table: orders.table.clone(), statements, goal: orders.leaves, steps }
+}
+
+const ABOUT: &str = "The worked fold of `docs/FOLDING.md`. Read a0 as \"the reel is sound\", a1 as \"the weight is booked\", a2 as \"the reel is waste\", a3 as \"the reel \
+                     may leave the store\", p7 as the lab, p8 as the weigher, and p9 as the storekeeper.";
+
+/// An old release of the second hall, and what becomes of it.
+pub fn releases() -> Section<Record> {
+    let orders = orders();
+    let by_word = [
+        &[implies_left(orders.release_on_word), and_right()],
+        &by_paper(orders.lab_says, orders.sound)[..],
+        &by_paper(orders.weigher_says, orders.weighed),
+        &[init(orders.leaves)],
+    ]
+    .concat();
+    // the last steps of that order's proof from the new list, which begin where both papers are hypotheses
+    let by_new = orders.release_on_word().split_off(2);
     Section {
         title: "Three machine halls",
-        about: "The worked fold of `docs/FOLDING.md`. Read a0 as \"the reel is sound\", a1 as \"the weight is booked\", a2 as \"the reel is waste\", a3 as \"the reel \
-                may leave the store\", p7 as the lab, p8 as the weigher, and p9 as the storekeeper.",
+        about: ABOUT,
+        samples: vec![
+            sample(
+                "three-halls-release",
+                "An old release of the second hall, by two of its orders and the papers of the lab and the weigher.",
+                released(&orders, &[orders.lab_counts, orders.release_on_word], by_word.clone()),
+                "granted 2 7 8",
+            ),
+            sample(
+                "three-halls-release-old-steps",
+                "The same papers with the new orders, and the steps of the old release: the first names an order that is no longer there.",
+                released(&orders, &orders.new(), by_word),
+                "refused 12 place 0",
+            ),
+            sample(
+                "three-halls-release-new-steps",
+                "The same papers with the new orders, and a proof from them: the goal has kept one.",
+                released(&orders, &orders.new(), by_new),
+                "granted 2 7 8",
+            ),
+        ],
+    }
+}
+
+/// The fold, a wrong one, and one that does not carry all proofs.
+pub fn folds() -> Section<Exchange> {
+    Section {
+        title: "Three machine halls",
+        about: ABOUT,
         samples: vec![
             sample(
                 "three-halls",
