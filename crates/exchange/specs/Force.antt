@@ -1,6 +1,6 @@
--- Demand 3's first two sentences over a table. "A list over a table is any count of numbers below F, none too, in a table where 4 finds no
--- fault; each number stands for the formula that its entry spells out." (01) What is promised here holds for all tables and all lists of
--- numbers, so for these lists too, also where a table repeats an entry: what counts is the proposition that a number spells. Proved in
+-- Demand 3 over a table: its first two sentences, and its last. "A list over a table is any count of numbers below F, none too, in a table
+-- where 4 finds no fault; each number stands for the formula that its entry spells out." (01) What is promised here holds for all tables and all
+-- lists of numbers, so for these lists too, also where a table repeats an entry: what counts is the proposition that a number spells. Proved in
 -- proofs/Force.antt. Assumes nothing.
 use Prim.Native.Nat.{ℕ}
 use mathlib.Core.Logic.{_↔_}
