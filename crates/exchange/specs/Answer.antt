@@ -37,7 +37,8 @@ otherLength file = at0 (not (eqb (length file) (size file)))
 abbrev pub statementOutside : List ℕ → Place
 statementOutside file = outside (formulas file) (firstList file ++ secondList file)
 
--- 1 to 5 and 7, in 01's order
+-- 1 to 5 and 7, in 01's order. 1: "The file has fewer than 8 bytes (place 0)." 4: "An entry has kind 6 or more or a wrong operand (place: the
+-- first such entry)." 5: "An entry has the head and second of an earlier one (place: the first such later entry; ..)."
 abbrev pub tests : List ℕ → List Test
 tests file =
     test 1 (tooShort file)
