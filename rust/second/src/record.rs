@@ -1,0 +1,41 @@
+//! The record: sizes F, S, N and the goal's number; heads, seconds, statements, steps.
+
+use super::derivation::Steps;
+use super::formula::{Formula, Principal};
+use super::layout::{lists, sizes, FORMULAS, MOST_STEPS, STATEMENTS};
+use super::refusal::{refuse_if, Refusal};
+use super::sequent::Hypotheses;
+use super::table::Table;
+use std::collections::BTreeSet;
+
+/// Checks a record, for a lent list of `room` words. Granted: the signers, as a set.
+pub fn check_record(file: &[u8], room: usize) -> Result<BTreeSet<u16>, Refusal> {
+    // Test 1.
+    let [f, s, n, goal] = sizes(file)?;
+    let [f, s, n] = [f, s, n].map(usize::from);
+    // Test 2.
+    let in_range = FORMULAS.contains(&f) && STATEMENTS.contains(&s) && (1..=MOST_STEPS).contains(&n);
+    refuse_if(!in_range, 2, 0)?;
+    // Test 3.
+    let [heads, seconds, statements, words] = lists(file, [f, f, s, n])?;
+    // Tests 4 and 5.
+    let table = Table::read(&heads, &seconds)?;
+    // Test 6.
+    let goal = table.get(goal).ok_or(Refusal { number: 6, place: 0 })?;
+    // Test 7.
+    let statements = table.statements(&statements)?;
+    // Test 8. The signers are "the principals K of its statements of the form K says A, each once".
+    let signers: BTreeSet<u16> = statements
+        .iter()
+        .filter_map(|statement| match **statement {
+            Formula::Says(Principal(k), _) => Some(k),
+            _ => None,
+        })
+        .collect();
+    refuse_if(room < signers.len(), 8, 0)?;
+    // Tests 9 to 15.
+    let steps = Steps { table: &table, words: &words };
+    let end = steps.proof(&Hypotheses::of(&statements), goal, 0)?;
+    steps.end(end)?;
+    Ok(signers)
+}
