@@ -1,0 +1,75 @@
+//! The benchmark: `cargo run --release --bin bench` prints the tables of docs/PERFORMANCE.md. All times are taken in one run of one process, and what
+//! counts are the ratios. It is no test: it stops where an answer is wrong, and never for a time.
+#![forbid(unsafe_code)]
+mod contenders;
+mod files;
+mod measure;
+mod rows;
+
+use contenders::{assert_answers, byte_sum, plain, proved, second};
+use measure::measure;
+use rows::{rows, Row};
+use std::io::{stderr, IsTerminal};
+use std::time::Duration;
+
+/// How long each row of either table is measured.
+const ROW: Duration = Duration::from_millis(900);
+
+/// A number with three figures or more.
+fn figures(number: f64) -> String {
+    match number {
+        ..10.0 => format!("{number:.2}"),
+        ..100.0 => format!("{number:.1}"),
+        _ => format!("{number:.0}"),
+    }
+}
+
+/// A whole number with commas.
+fn whole(number: usize) -> String {
+    let digits = number.to_string();
+    let parts: Vec<&str> = digits.as_bytes().rchunks(3).rev().map(|part| std::str::from_utf8(part).expect("digits")).collect();
+    parts.join(",")
+}
+
+fn speed(row: &Row) -> String {
+    let file = &row.full;
+    let times = measure(vec![proved(file), plain(file), second(file), byte_sum(file)], ROW);
+    let ratios = [times[0] / times[1], times[2] / times[0], times[0] / times[3]].map(figures);
+    format!("| {} | {} | {} | {} |", row.name, whole(file.bytes.len()), whole(times[0] as usize), ratios.join(" | "))
+}
+
+fn growth(row: &Row) -> Option<String> {
+    let (full, half) = (&row.full, row.half.as_ref()?);
+    let times = measure(vec![proved(full), proved(half), plain(full), plain(half)], ROW);
+    let bytes = full.bytes.len() as f64 / half.bytes.len() as f64;
+    Some(format!("| {} | {bytes:.2} | {:.2} | {:.2} |", row.name, times[0] / times[1], times[2] / times[3]))
+}
+
+/// Prints a line for each row that has one; on a terminal a count shows which is being measured.
+fn print_lines(rows: &[Row], line: impl Fn(&Row) -> Option<String>) {
+    let shown = stderr().is_terminal();
+    for (i, row) in rows.iter().enumerate() {
+        if shown {
+            eprint!("\r{} of {}", i + 1, rows.len());
+        }
+        let measured = line(row);
+        if shown {
+            eprint!("\r        \r");
+        }
+        measured.iter().for_each(|line| println!("{line}"));
+    }
+}
+
+fn main() {
+    let rows = rows();
+    for row in &rows {
+        [Some(&row.full), row.half.as_ref()].into_iter().flatten().for_each(|file| assert_answers(row.name, file));
+    }
+    println!("| file | bytes | proved, ns | proved / plain | second / proved | proved / sum of bytes |");
+    println!("|---|---:|---:|---:|---:|---:|");
+    print_lines(&rows, |row| Some(speed(row)));
+    println!("\nFull size over half size; a time that grows as the bytes do is linear:\n");
+    println!("| file | bytes | time, proved | time, plain |");
+    println!("|---|---:|---:|---:|");
+    print_lines(&rows, growth);
+}

@@ -1,0 +1,100 @@
+//! A plain fast checker of release records and exchange files, as one writes it for speed in safe Rust: words are read where they stand, a
+//! hypothesis is a mark at its formula's number, and no more memory is cleared than the file's sizes ask for. It makes all of 01's tests in 01's
+//! order and keeps nothing between calls. The proved checker is measured against it.
+#![forbid(unsafe_code)]
+mod limits;
+mod signers;
+mod table;
+mod walk;
+mod words;
+
+use limits::{MOST_FORMULAS, MOST_STATEMENTS, MOST_STEPS};
+use walk::{with_marks, Walk};
+use words::Words;
+
+/// "A refusal gives its number and a place"
+#[derive(Clone, Copy, Debug, PartialEq, Eq)]
+pub struct Refusal {
+    pub number: u8,
+    pub place: usize,
+}
+
+fn refuse<T>(number: u8, place: usize) -> Result<T, Refusal> {
+    Err(Refusal { number, place })
+}
+
+/// The four words that every file begins with, and those after them. Test 1.
+fn sizes(file: &[u8]) -> Result<([usize; 4], Words<'_>), Refusal> {
+    if file.len() < 8 {
+        return refuse(1, 0);
+    }
+    let (sizes, rest) = Words::of(file).split_at(4);
+    Ok(([0, 1, 2, 3].map(|i| sizes.at(i) as usize), rest))
+}
+
+/// Checks a record. Granted, the signers stand at the start of the lent list, and their count is given; refused, the list is as it was.
+pub fn check_record(file: &[u8], signers: &mut [u16]) -> Result<usize, Refusal> {
+    let ([formulas, count, steps, goal], rest) = sizes(file)?;
+    if formulas == 0 || formulas > MOST_FORMULAS || count > MOST_STATEMENTS || steps == 0 || steps > MOST_STEPS {
+        return refuse(2, 0);
+    }
+    if file.len() != 2 * (4 + 2 * formulas + count + steps) {
+        return refuse(3, 0);
+    }
+    let (heads, rest) = rest.split_at(formulas);
+    let (seconds, rest) = rest.split_at(formulas);
+    let (statements, steps) = rest.split_at(count);
+    table::check(heads, seconds)?;
+    if goal >= formulas {
+        return refuse(6, 0);
+    }
+    with_marks(formulas, |held| {
+        hold_all(held, statements)?;
+        // a list as long as the statements has room for every signer
+        if signers.len() < count && signers.len() < signers::collect(heads, statements, &mut []) {
+            return refuse(8, 0);
+        }
+        let mut walk = Walk::new(heads, seconds, steps, held);
+        walk.prove(goal as u16)?;
+        walk.end()?;
+        Ok(signers::collect(heads, statements, signers))
+    })
+}
+
+/// Checks an exchange file; `Ok` means equal.
+pub fn check_exchange(file: &[u8]) -> Result<(), Refusal> {
+    let ([formulas, count, other, steps], rest) = sizes(file)?;
+    if formulas == 0 || formulas > MOST_FORMULAS || count > MOST_STATEMENTS || other > MOST_STATEMENTS || steps > MOST_STEPS {
+        return refuse(2, 0);
+    }
+    if file.len() != 2 * (4 + 2 * formulas + count + other + steps) {
+        return refuse(3, 0);
+    }
+    let (heads, rest) = rest.split_at(formulas);
+    let (seconds, rest) = rest.split_at(formulas);
+    let (first, rest) = rest.split_at(count);
+    let (second, steps) = rest.split_at(other);
+    table::check(heads, seconds)?;
+    with_marks(formulas, |held| {
+        hold_all(held, first)?;
+        if let Some(position) = second.iter().position(|n| n as usize >= formulas) {
+            return refuse(7, count + position);
+        }
+        let mut walk = Walk::new(heads, seconds, steps, held);
+        second.iter().try_for_each(|goal| walk.prove(goal))?;
+        walk.hold_instead(first, second);
+        first.iter().try_for_each(|goal| walk.prove(goal))?;
+        walk.end()
+    })
+}
+
+/// Holds the statements, and makes test 7 on the way.
+fn hold_all(held: &mut [bool], statements: Words) -> Result<(), Refusal> {
+    for (position, n) in statements.iter().enumerate() {
+        match held.get_mut(n as usize) {
+            Some(mark) => *mark = true,
+            None => return refuse(7, position),
+        }
+    }
+    Ok(())
+}
