@@ -1,0 +1,95 @@
+//! One file that both checkers are given, and which one it is by its seed and number.
+use crate::parts::{bytes, Kind, Parts};
+use crate::random::Random;
+use crate::slips::Slip;
+use crate::{deep, exchanges, largest, misses, noise, raw, records};
+
+/// A file, and how it is given.
+#[derive(Clone, Debug)]
+pub struct Given {
+    /// What it was made as.
+    pub family: &'static str,
+    pub kind: Kind,
+    pub file: Vec<u8>,
+    /// The length of the lent list, where it is given as a record.
+    pub room: usize,
+    /// Whether it is given to the other kind of check too.
+    pub to_both: bool,
+}
+
+/// What a file is made as, in the order of the table that is printed.
+pub const FAMILIES: [&str; 7] = ["fixed", "right", "slip", "near miss", "noise", "deep", "largest"];
+
+/// File `number` of a seed: the same on every machine and in every thread.
+pub fn given(seed: u64, number: u64) -> Given {
+    let random = &mut Random::of(seed, number);
+    let kind = if random.one_in(3) { Kind::Exchange } else { Kind::Record };
+    match random.below(4000) {
+        0 => large(random, kind),
+        1..=8 => plain(random, "deep", kind, |random| deep::deep(random, kind)),
+        9..=600 => plain(random, "noise", kind, |random| noise::noise(random, kind)),
+        601..=1600 => {
+            let parts = right(random, kind);
+            of_parts(random, "right", &parts)
+        }
+        1601..=2100 => {
+            let slip = Some(Slip::any(random));
+            let parts = if kind == Kind::Record { records::small(random, slip) } else { exchanges::small(random, slip) };
+            of_parts(random, "slip", &parts)
+        }
+        _ => {
+            let parts = right(random, kind);
+            near_miss(random, "near miss", parts)
+        }
+    }
+}
+
+/// A file of the largest sizes, or nearly.
+pub fn large(random: &mut Random, kind: Kind) -> Given {
+    let parts = largest::some_largest(random, kind);
+    if random.one_in(2) {
+        of_parts(random, "largest", &parts)
+    } else {
+        near_miss(random, "largest", parts)
+    }
+}
+
+fn right(random: &mut Random, kind: Kind) -> Parts {
+    match kind {
+        Kind::Record if random.one_in(40) => records::needs_twice(random),
+        Kind::Record => records::small(random, None),
+        Kind::Exchange => exchanges::small(random, None),
+    }
+}
+
+fn near_miss(random: &mut Random, family: &'static str, mut parts: Parts) -> Given {
+    let kind = parts.kind;
+    let as_parts = random.below(4) > 0;
+    if as_parts {
+        misses::some_misses(&mut parts, random);
+    }
+    let mut given = of_parts(random, family, &parts);
+    if !as_parts || random.one_in(16) {
+        given.file = raw::missed(parts.words(), kind, random);
+    }
+    given
+}
+
+fn of_parts(random: &mut Random, family: &'static str, parts: &Parts) -> Given {
+    let signers = parts.signers().len();
+    let room = match random.below(12) {
+        0 => 0,
+        1 => signers.saturating_sub(1),
+        2 | 3 => signers,
+        4 => signers + 1,
+        5 => random.below(300),
+        _ => 256,
+    };
+    Given { family, kind: parts.kind, file: bytes(&parts.words()), room, to_both: random.one_in(16) }
+}
+
+fn plain(random: &mut Random, family: &'static str, kind: Kind, file: impl Fn(&mut Random) -> Vec<u8>) -> Given {
+    let file = file(random);
+    let room = if random.one_in(4) { random.below(4) } else { 256 };
+    Given { family, kind, file, room, to_both: random.one_in(4) }
+}

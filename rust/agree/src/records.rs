@@ -1,0 +1,65 @@
+//! Records with a right proof, or with one that follows a slip.
+use crate::derivations::{Grower, Judgment};
+use crate::parts::Parts;
+use crate::random::Random;
+use crate::slips::{self, Slip};
+use crate::steps::*;
+use crate::table::Entry::{False, Implies, Or};
+use crate::table::Table;
+
+/// A small record: a random goal, a grown proof, what it needs as statements, and what nobody needs.
+pub fn small(random: &mut Random, slip: Option<Slip>) -> Parts {
+    let mut table = Table::default();
+    let unused = random.below(4);
+    table.fill(random, unused);
+    let levels = random.below(4);
+    let goal = if slip.is_some() { slips::goal(random, &mut table, levels) } else { table.formula(random, levels) };
+    let steps = match random.below(8) {
+        0 => random.between(30, 120),
+        1 => 1,
+        _ => random.between(1, 24),
+    };
+    let mut grower = Grower::new(random, &mut table, 60);
+    grower.slip = slip;
+    let steps = steps.max(grower.least(Judgment::Truth(goal)));
+    grower.grow(Judgment::Truth(goal), steps, 1);
+    let (statements, steps) = (grower.statements, grower.steps);
+    dressed(random, table, statements, goal, steps)
+}
+
+/// "not not (A or not A)" has no proof without its hypothesis twice.
+pub fn needs_twice(random: &mut Random) -> Parts {
+    let mut table = Table::default();
+    let a = table.formula(random, 1);
+    let falsehood = table.number(False);
+    let not_a = table.number(Implies(a, falsehood));
+    let either = table.number(Or(a, not_a));
+    let neither = table.number(Implies(either, falsehood));
+    let goal = table.number(Implies(neither, falsehood));
+    let twice = IMPLIES_LEFT + neither;
+    let start = [IMPLIES_RIGHT, twice, OR_RIGHT_SECOND, IMPLIES_RIGHT, twice, OR_RIGHT_FIRST];
+    let end = [FALSE_LEFT + falsehood, FALSE_LEFT + falsehood];
+    let steps = [&start[..], &identity(&table, a), &end].concat();
+    dressed(random, table, vec![], goal, steps)
+}
+
+/// The record with unused and repeated statements, unused entries, and its parts in any order.
+fn dressed(random: &mut Random, mut table: Table, mut statements: Vec<u16>, goal: u16, steps: Vec<u16>) -> Parts {
+    while random.one_in(3) {
+        statements.push(table.formula(random, 1));
+    }
+    while !statements.is_empty() && random.one_in(4) {
+        statements.push(random.pick(&statements));
+    }
+    if random.one_in(2) {
+        random.shuffle(&mut statements);
+    }
+    let unused = table.len() + random.below(4);
+    table.fill(random, unused);
+    let parts = Parts::record(&table, statements, goal, steps);
+    if random.one_in(2) {
+        parts.in_other_order(&table, random)
+    } else {
+        parts
+    }
+}

@@ -1,0 +1,102 @@
+//! How often each refusal, each rule and each grant occurred.
+use crate::compare::Answer;
+use crate::given::{Given, FAMILIES};
+use crate::parts::Kind;
+use crate::steps::RULES;
+use std::fmt;
+
+#[derive(Clone, Default, PartialEq, Eq, Debug)]
+pub struct Tally {
+    pub files: u64,
+    pub families: [u64; FAMILIES.len()],
+    pub granted: u64,
+    pub equal: u64,
+    /// Refusals of records by number, from 1 to 15.
+    pub records: [u64; 16],
+    /// Refusals of exchange files, which never have 6 or 8.
+    pub exchanges: [u64; 16],
+    /// Steps by code in files that were granted or equal.
+    pub rules: [u64; 12],
+}
+
+impl Tally {
+    pub fn count(&mut self, given: &Given, answers: &[(Kind, Answer)]) {
+        self.files += 1;
+        let family = FAMILIES.iter().position(|&family| family == given.family).expect("a family of the list");
+        self.families[family] += 1;
+        for (kind, answer) in answers {
+            match answer {
+                Answer::Granted(_) => self.granted += 1,
+                Answer::Equal => self.equal += 1,
+                Answer::Refused { number, .. } => match kind {
+                    Kind::Record => self.records[usize::from(*number)] += 1,
+                    Kind::Exchange => self.exchanges[usize::from(*number)] += 1,
+                },
+                Answer::Broken(_) => {}
+            }
+            if matches!(answer, Answer::Granted(_) | Answer::Equal) {
+                steps(&given.file, *kind).for_each(|step| self.rules[usize::from(step / 4096)] += 1);
+            }
+        }
+    }
+
+    pub fn add(&mut self, other: &Tally) {
+        self.files += other.files;
+        self.granted += other.granted;
+        self.equal += other.equal;
+        let pairs = |mine: &mut [u64], theirs: &[u64]| mine.iter_mut().zip(theirs).for_each(|(a, b)| *a += b);
+        pairs(&mut self.families, &other.families);
+        pairs(&mut self.records, &other.records);
+        pairs(&mut self.exchanges, &other.exchanges);
+        pairs(&mut self.rules, &other.rules);
+    }
+
+    /// What should have occurred and never did.
+    pub fn missing(&self) -> Vec<String> {
+        let mut missing = vec![];
+        let mut expect = |count: u64, what: String| {
+            if count == 0 {
+                missing.push(what);
+            }
+        };
+        expect(self.granted, "granted".to_string());
+        expect(self.equal, "equal".to_string());
+        for number in 1..=15 {
+            expect(self.records[number], format!("refusal {number} of a record"));
+            if number != 6 && number != 8 {
+                expect(self.exchanges[number], format!("refusal {number} of an exchange file"));
+            }
+        }
+        for (code, name) in RULES.iter().enumerate() {
+            expect(self.rules[code], format!("rule {code}, {name}, in a file that is granted or equal"));
+        }
+        missing
+    }
+}
+
+/// The step words of a file that was granted or equal: its last N.
+fn steps(file: &[u8], kind: Kind) -> impl Iterator<Item = u16> + '_ {
+    let word = |at: usize| u16::from_le_bytes([file[2 * at], file[2 * at + 1]]);
+    let count = usize::from(word(if kind == Kind::Record { 2 } else { 3 }));
+    file[file.len() - 2 * count..].chunks_exact(2).map(|pair| u16::from_le_bytes([pair[0], pair[1]]))
+}
+
+impl fmt::Display for Tally {
+    fn fmt(&self, f: &mut fmt::Formatter<'_>) -> fmt::Result {
+        writeln!(f, "{:<28} {:>12}", "files", self.files)?;
+        for (family, count) in FAMILIES.iter().zip(self.families) {
+            writeln!(f, "  {family:<26} {count:>12}")?;
+        }
+        writeln!(f, "\n{:<28} {:>12} {:>14}", "answer", "record", "exchange")?;
+        writeln!(f, "{:<28} {:>12} {:>14}", "granted, equal", self.granted, self.equal)?;
+        for number in 1..=15 {
+            let exchange = if number == 6 || number == 8 { "-".to_string() } else { self.exchanges[number].to_string() };
+            writeln!(f, "{:<28} {:>12} {exchange:>14}", format!("refused {number}"), self.records[number])?;
+        }
+        writeln!(f, "\n{:<28} {:>12}", "rule, granted and equal", "steps")?;
+        for (code, name) in RULES.iter().enumerate() {
+            writeln!(f, "{code:>2} {name:<25} {:>12}", self.rules[code])?;
+        }
+        Ok(())
+    }
+}

@@ -1,0 +1,75 @@
+//! The proved checker and the second one on the fixed set, and what the generators promise.
+use agree::compare::{compared, Answer};
+use agree::fixed::{Fixed, SEED};
+use agree::given::given;
+use agree::parts::Kind;
+use agree::run::{run, STACK};
+use std::thread;
+
+#[test]
+fn both_checkers_agree_on_the_fixed_set() {
+    let fixed = Fixed::new();
+    match run(fixed.count(), 2, &|number| fixed.given(number), &|_| {}) {
+        Err((number, disagreement)) => panic!("{disagreement}\n  file {number} of the fixed set"),
+        Ok(tally) => {
+            println!("{tally}");
+            assert_eq!(tally.files, fixed.count());
+            assert_eq!(tally.missing(), Vec::<String>::new(), "never occurred");
+        }
+    }
+}
+
+#[test]
+fn files_made_as_right_are_granted_or_equal() {
+    let check = || {
+        for number in 0..20_000 {
+            let given = given(SEED, number);
+            if given.family == "right" {
+                let (_, answer) = compared(&given).expect("no disagreement").remove(0);
+                let right = matches!(answer, Answer::Granted(_) | Answer::Equal | Answer::Refused { number: 8, .. });
+                assert!(right, "file {number}: {answer:?}");
+            }
+        }
+    };
+    thread::Builder::new().stack_size(STACK).spawn(check).expect("a thread starts").join().expect("all are right");
+}
+
+#[test]
+fn the_threads_change_nothing() {
+    let with = |threads| run(5_000, threads, &|number| given(9, number), &|_| {}).expect("no disagreement");
+    assert_eq!(with(1), with(3));
+}
+
+/// The same seed makes the same files on every machine; after a change of the generators the number here is another.
+#[test]
+fn a_seed_makes_the_same_files_everywhere() {
+    let mut sum = 0xcbf2_9ce4_8422_2325_u64;
+    for number in 0..2_000 {
+        let given = given(1, number);
+        for byte in given.file.iter().copied().chain((given.room as u64).to_le_bytes()) {
+            sum = (sum ^ u64::from(byte)).wrapping_mul(0x100_0000_01b3);
+        }
+    }
+    assert_eq!(format!("{sum:016x}"), "40b793497c4928e0");
+}
+
+/// "The length is .. at most 49,672"; two full lists make an exchange file longer by another list.
+#[test]
+fn the_largest_files_are_as_large_as_may_be() {
+    let [mut record, mut exchange] = [0, 0];
+    let check = || {
+        let fixed = Fixed::new();
+        for number in 0..48 {
+            let given = fixed.given(fixed.count() - 96 + number);
+            let (kind, answer) = compared(&given).expect("no disagreement").remove(0);
+            assert!(matches!(answer, Answer::Granted(_) | Answer::Equal), "file {number}: {answer:?}");
+            let longest = if kind == Kind::Record { &mut record } else { &mut exchange };
+            *longest = given.file.len().max(*longest);
+        }
+        assert_eq!([record, exchange], [49_672, 50_184]);
+    };
+    thread::scope(|scope| {
+        let check = thread::Builder::new().stack_size(STACK).spawn_scoped(scope, check).expect("a thread starts");
+        check.join().expect("all are as large as may be");
+    });
+}
