@@ -10,7 +10,7 @@ fn record(table: &Table, statements: &[Formula], goal: Formula, steps: &[Step]) 
 }
 
 pub fn sections() -> Vec<Section<Record>> {
-    vec![of_document_01(), other_refusals(), class_errors(), misreadings(), signers(), three_halls::releases()]
+    vec![of_document_01(), other_refusals(), class_errors(), misreadings(), about_says(), signers(), three_halls::releases()]
 }
 
 /// "Record A uses entries 0 and 1 only": atom 0, and principal 7 says it.
@@ -408,6 +408,130 @@ fn misreadings() -> Section<Record> {
                 "And of that everybody may speak: that p7 says a0 is true here, so p8 says that p7 says a0. That p8 says a0 does not follow.",
                 record(&said, &[says_false], reported, &[says_right(), affirm(), says_right(), says_left(says_false), false_left(falsehood)]),
                 "granted 1 7",
+            ),
+        ],
+    }
+}
+
+/// Papers (p7 says (a0 implies a1)) and (K says a0), goal (K says a1): both papers are opened, and implies left joins what they say.
+fn joined(k: u16) -> Record {
+    let mut table = Table::default();
+    let a0 = table.atom(0);
+    let a1 = table.atom(1);
+    let a0_a1 = table.implies(a0, a1);
+    let says_a0_a1 = table.says(7, a0_a1);
+    let says_a0 = table.says(k, a0);
+    let says_a1 = table.says(k, a1);
+    let steps = [says_right(), says_left(says_a0_a1), says_left(says_a0), implies_left(a0_a1), init(a0), affirm(), init(a1)];
+    record(&table, &[says_a0_a1, says_a0], says_a1, &steps)
+}
+
+fn about_says() -> Section<Record> {
+    // a0 implies (p7 says a0)
+    let mut truth = Table::default();
+    let t0 = truth.atom(0);
+    let t7 = truth.says(7, t0);
+    let t0_is_said = truth.implies(t0, t7);
+
+    // (p7 says (p7 says a0)) implies (p7 says a0)
+    let mut twice = Table::default();
+    let w0 = twice.atom(0);
+    let once = twice.says(7, w0);
+    let says_once = twice.says(7, once);
+    let twice_is_once = twice.implies(says_once, once);
+
+    // (p7 says a0) implies a0
+    let mut said = Table::default();
+    let s0 = said.atom(0);
+    let s7 = said.says(7, s0);
+    let s0_is_true = said.implies(s7, s0);
+
+    // (p7 says false) implies false
+    let mut absurd = Table::default();
+    let falsehood = absurd.falsehood();
+    let says_false = absurd.says(7, falsehood);
+    let false_is_true = absurd.implies(says_false, falsehood);
+
+    // (p7 says a0) implies (p8 says a0)
+    let mut another = Table::default();
+    let n0 = another.atom(0);
+    let n7 = another.says(7, n0);
+    let n8 = another.says(8, n0);
+    let n8_too = another.implies(n7, n8);
+
+    // p7 says (a0 or a1), and (p7 says a0) or (p7 says a1)
+    let mut cases = Table::default();
+    let c0 = cases.atom(0);
+    let c1 = cases.atom(1);
+    let c0_or_c1 = cases.or(c0, c1);
+    let says_or = cases.says(7, c0_or_c1);
+    let says_c0 = cases.says(7, c0);
+    let says_c1 = cases.says(7, c1);
+    let or_says = cases.or(says_c0, says_c1);
+
+    Section {
+        title: "What follows from says",
+        about: "Section 2.2 of 003, Garg and Pfenning's paper, has three formulas about says that have a proof from no statements, and three that have none. Here \
+                they are for p7 and a0, the second of them as two papers and what they give; and last, an or in a paper.",
+        samples: vec![
+            sample(
+                "truth-is-said",
+                "What is true, everybody says, as in B: here a0 is no standing order, and implies right adds it.",
+                record(&truth, &[], t0_is_said, &[implies_right(), says_right(), affirm(), init(t0)]),
+                "granted 0",
+            ),
+            sample(
+                "says-distributes",
+                "Two papers of p7 go together without an order: both serve an affirmation by p7, and implies left joins what they say.",
+                joined(7),
+                "granted 1 7",
+            ),
+            sample(
+                "says-distributes-another",
+                "The same with p8's word on a0, and p8's word as the goal: the paper of p7 does not serve an affirmation by p8.",
+                joined(8),
+                "refused 14 place 1",
+            ),
+            sample(
+                "says-twice-is-says",
+                "That p7 says that p7 says a0 is no more than that p7 says a0: for an affirmation by p7 the outer one is opened and then the inner one.",
+                record(
+                    &twice,
+                    &[],
+                    twice_is_once,
+                    &[implies_right(), says_right(), says_left(says_once), says_left(once), affirm(), init(w0)],
+                ),
+                "granted 0",
+            ),
+            sample(
+                "said-is-not-true",
+                "What p7 says is not thereby true, as in C: implies right adds (p7 says a0) and leaves a truth as the goal, which says left does not serve.",
+                record(&said, &[], s0_is_true, &[implies_right(), says_left(s7), init(s0)]),
+                "refused 14 place 1",
+            ),
+            sample(
+                "said-false-is-not-false",
+                "Nor is false true where p7 says false: the goal is a truth here too.",
+                record(&absurd, &[], false_is_true, &[implies_right(), says_left(says_false), false_left(falsehood)]),
+                "refused 14 place 1",
+            ),
+            sample(
+                "said-is-not-said-by-another",
+                "What p7 says, p8 does not thereby say, as in D: says right makes the goal an affirmation by p8, which (p7 says a0) does not serve.",
+                record(&another, &[], n8_too, &[implies_right(), says_right(), says_left(n7), affirm(), init(n0)]),
+                "refused 14 place 2",
+            ),
+            sample(
+                "or-in-a-paper",
+                "That p7 says (a0 or a1) is read as ((p7 says a0) or (p7 says a1)): the class takes the first side before it opens the paper, and in the second \
+                 case of or left it has only a1.",
+                record(
+                    &cases,
+                    &[says_or],
+                    or_says,
+                    &[or_right_first(), says_right(), says_left(says_or), or_left(c0_or_c1), affirm(), init(c0), affirm(), init(c0)],
+                ),
+                "refused 12 place 7",
             ),
         ],
     }
