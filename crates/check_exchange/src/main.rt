@@ -1,11 +1,11 @@
 // "one reads an exchange file .. prints one line." (01) All but reading and writing is `answer_exchange_line`'s.
+use answers::answer_line::answer_exchange_line;
+use answers::answer_line::line_buffer;
 use exchange::limits::file_buffer;
 use input::read_input;
 use libc::STDERR_FILENO;
 use libc::STDIN_FILENO;
 use libc::STDOUT_FILENO;
-use line::answer_line::answer_exchange_line;
-use line::answer_line::line_buffer;
 
 fn main() {
     let mut file = file_buffer();

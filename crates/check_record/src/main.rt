@@ -1,11 +1,11 @@
 // "One program reads a record on standard input and lends a list of 256 words .. prints one line." (01) All but reading and writing is
 // `answer_line`'s.
+use answers::answer_line::answer_line;
+use answers::answer_line::line_buffer;
 use input::read_input;
 use libc::STDERR_FILENO;
 use libc::STDIN_FILENO;
 use libc::STDOUT_FILENO;
-use line::answer_line::answer_line;
-use line::answer_line::line_buffer;
 use record::limits::file_buffer;
 
 fn main() {

@@ -1,6 +1,5 @@
--- The theorems whose statements are in specs/, and the laws behind the code.
-pub mod Listed
-pub mod Lines
+-- The theorems whose statements are in specs/, and what a call owes that writes a line.
+pub mod Line
 pub mod LineFits
 pub mod Printed
 pub mod Samples

@@ -14,7 +14,6 @@ use Rattle.exchange.specs.declared.verdict.Verdict.the-variants.{Equal, Refused
 use Rattle.line.specs.RefusedLine.{refusedLine}
 use Rattle.line.specs.RecordLine.{listed, recordLine, LineFits}
 use Rattle.line.specs.ExchangeLine.{exchangeLine, ExchangeLineFits}
-use Rattle.line.proofs.Listed.{afterBlank}
 
 -- A word of 16 bits after a blank has 6 bytes at most,
 listed-fits : (count : ℕ) (ks : List ℕ) → ((k : ℕ) → k ∈ ks → k < 65536) → length (listed (take count ks)) ≤ count * 6
@@ -27,7 +26,7 @@ listed-fits (suc count) (k ∷ ks) h =
       arith,
       listed-fits count ks (λ j m. h j (List·Memᴰ·tail m)),
       decimal-length k 5 (omega arith) (omega arith),
-      length-append (afterBlank k) (listed (take count ks)),
+      length-append (ascii " " ++ decimal k) (listed (take count ks)),
       length-append (ascii " ") (decimal k),
     )
 

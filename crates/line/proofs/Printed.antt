@@ -20,33 +20,13 @@ use Rattle.record.specs.Layout.{heads, seconds, statements}
 use Rattle.record.specs.Answer.{recordAnswer}
 use Rattle.record.specs.Lent.{Left}
 use Rattle.record.proofs.Small.{answers-small}
-use Rattle.exchange.specs.declared.verdict.Verdict.{Verdict as ExchangeVerdict}
 use Rattle.exchange.specs.Answer.{exchangeAnswer}
 use Rattle.exchange.proofs.Small.{answers-small as exchange-answers-small}
 use Rattle.line.specs.Line.{lineAfter, lineCount}
 use Rattle.line.specs.RecordLine.{recordLine}
 use Rattle.line.specs.ExchangeLine.{exchangeLine}
-use Rattle.line.specs.Printed.{Printed, WholeLine, WholeExchangeLine}
-use Rattle.line.proofs.Lines.{Owed}
+use Rattle.line.specs.Printed.{WholeLine, WholeExchangeLine}
 use Rattle.line.proofs.LineFits.{line-fits, exchange-line-fits}
-
--- The check's answer, the list that it leaves, and the line of both.
-pub printed :
-    (file before : List ℕ) {v : Verdict} (list : List ℕ) {count : ℕ} (after : List ℕ)
-    → v ≡ recordAnswer file mostStatements → Left file v (replicate mostStatements 0) list
-    → count ≡ lineCount before (recordLine v list) → after ≡ lineAfter before (recordLine v list) → Printed file before count after
-printed file before {v} list {count} after answered left counted written = record {
-  list = list;
-  left = subst (λ (w : Verdict). Left file w (replicate mostStatements 0) list) answered left;
-  counted = counted ∙ ap (λ (w : Verdict). lineCount before (recordLine w list)) answered;
-  written = written ∙ ap (λ (w : Verdict). lineAfter before (recordLine w list)) answered;
-}
-
--- The same for an exchange file, which has no list.
-pub exchange-printed :
-    (file before : List ℕ) {v : ExchangeVerdict} {count : ℕ} {after : List ℕ}
-    → v ≡ exchangeAnswer file → Owed before (exchangeLine v) count after → Owed before (exchangeLine (exchangeAnswer file)) count after
-exchange-printed file before {count} {after} answered = subst (λ (w : ExchangeVerdict). Owed before (exchangeLine w) count after) answered
 
 -- ---- the words of the list
 

@@ -1,7 +1,1 @@
-// The lines that the programs print for an answer.
-pub mod answer_line;
-pub mod exchange_line;
-mod granted;
-mod measure;
-pub mod record_line;
-mod refused;
+// The lines that the programs print for an answer: definitions and theorems, and no code.

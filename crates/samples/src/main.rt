@@ -3,13 +3,13 @@
 ghost use Prim.Native.Nat.{_≤_};
 ghost use mathlib.Core.Path.{_≡_};
 ghost use lib.ListN.{length, take};
+use answers::answer_line::answer_exchange_line;
+use answers::answer_line::answer_line;
+use answers::answer_line::line_buffer;
 use ending::ends_with;
 use exchange::limits::file_buffer;
 use input::read_input;
 use libc::STDOUT_FILENO;
-use line::answer_line::answer_exchange_line;
-use line::answer_line::answer_line;
-use line::answer_line::line_buffer;
 
 mod ending;
 

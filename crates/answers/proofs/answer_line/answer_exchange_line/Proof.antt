@@ -1,0 +1,17 @@
+-- `answers::answer_line::answer_exchange_line` meets its contract: the line is that of the check's answer. Assumes nothing.
+use borrow.Author.Needs.{needs}
+use Rattle.answers.proofs.Printed.{exchange-printed}
+use Rattle.answers.proofs.answer_line.answer_exchange_line.Statement.{statement}
+use Rattle.answers.proofs.answer_line.answer_exchange_line.Tie as tie
+
+returns : tie.Need-returns
+returns c =
+    let w = c .before .before in
+    let v = w .before .before in
+    let a = v .before .before .before .args in
+    exchange-printed (a .file .now) (a .line .now) (v .check-exchange .ensures) (w .write-exchange-line .ensures)
+
+pub answer-exchange-line-spec : {M : Type 1} → statement M
+answer-exchange-line-spec =
+    tie.close
+    (tie.spec (λ c κs. search needs) (λ c κs. search needs) (λ c. search needs) returns)

@@ -1,0 +1,3 @@
+-- The laws behind the code.
+pub mod Listed
+pub mod Room
