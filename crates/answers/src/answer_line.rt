@@ -7,10 +7,10 @@ ghost use Rattle.line.specs.ExchangeLine.{exchangeLine};
 ghost use Rattle.line.specs.Line.{lineAfter, lineCount};
 ghost use Rattle.line.specs.Printed.{Printed};
 ghost use Rattle.line.specs.RecordLine.{mostLine};
-use exchange::check::check_exchange;
+use exchange_check::check::check_exchange;
 use line_write::exchange_line::write_exchange_line;
 use line_write::record_line::write_record_line;
-use record::check::check_record;
+use record_check::check::check_record;
 use table::limits::MOST_STATEMENTS;
 
 // Every line of a record's answer fits into so many bytes: a count of three digits, and 256 signers of five, each after a blank.

@@ -1,7 +1,7 @@
 // "one reads an exchange file .. prints one line." (01) All but reading and writing is `answer_exchange_line`'s.
 use answers::answer_line::answer_exchange_line;
 use answers::answer_line::line_buffer;
-use exchange::limits::file_buffer;
+use exchange_check::limits::file_buffer;
 use input::read_input;
 use libc::STDERR_FILENO;
 use libc::STDIN_FILENO;

@@ -6,7 +6,7 @@ use input::read_input;
 use libc::STDERR_FILENO;
 use libc::STDIN_FILENO;
 use libc::STDOUT_FILENO;
-use record::limits::file_buffer;
+use record_check::limits::file_buffer;
 
 fn main() {
     let mut file = file_buffer();

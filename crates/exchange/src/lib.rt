@@ -1,7 +1,2 @@
-// The exchange check: whether a file proves that two lists of statements are equal in force.
-mod arrays;
-pub mod check;
-mod ending;
-mod layout;
-pub mod limits;
+// The answer for an exchange file: whether it proves that two lists of statements are equal in force. `exchange_check` has the check.
 pub mod verdict;

@@ -12,10 +12,10 @@ ghost use Rattle.exchange.specs.Promises.{Small as ExchangeSmall};
 ghost use Rattle.ffi.specs.RefusalCode.{refusalCode};
 ghost use Rattle.ffi.specs.Code.{answerCode};
 ghost use Rattle.ffi.specs.ExchangeCode.{exchangeCode};
-use exchange::check::check_exchange;
 use exchange::verdict::Verdict as Exchange;
-use record::check::check_record;
+use exchange_check::check::check_exchange;
 use record::verdict::Verdict;
+use record_check::check::check_record;
 
 // One number for a refusal within its bounds, of a record or of an exchange file.
 fn refusal_code(number: u8, place: usize) -> u64

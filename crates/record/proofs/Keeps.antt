@@ -9,13 +9,13 @@ use lib.ListN.{length, drop}
 use Rattle.table.specs.Limits.{mostFormulas, mostStatements, mostSteps}
 use Rattle.table.proofs.Ordered.{no-fault-ordered}
 use Rattle.file.specs.Refusals.{Test, NoneApplies}
+use Rattle.file.specs.Tests.{layoutTests}
 use Rattle.file.proofs.Asked.{not-less, at-most, not-at-most, both-are, at0-nowhere}
 use Rattle.file.proofs.LayoutTests.{none-to-3}
 use Rattle.file.proofs.Outside.{none-outside}
 use Rattle.file.proofs.Unlike.{not-repeated}
 use Rattle.record.specs.Layout.{formulas, statementCount, stepCount, goal, heads, seconds, statements, size, table, signers}
 use Rattle.record.specs.Answer.{inRange, tests}
-use Rattle.record.specs.Parts.{firstTests}
 use Rattle.record.specs.Proof.{InRange, Sized, Keeps}
 
 -- ---- 1 to 3
@@ -31,7 +31,7 @@ in-range file =
     )
 
 -- None of 1 to 3 applies exactly when the sizes are in range and the length is theirs.
-pub sized : (file : List ℕ) → NoneApplies (firstTests file) ↔ Sized file
+pub sized : (file : List ℕ) → NoneApplies (layoutTests file (inRange (formulas file) (statementCount file) (stepCount file)) (size file)) ↔ Sized file
 sized file =
     let (to, from) = none-to-3 file _ (size file) (omega arith) in (
       λ none. let (range, is) = to none in record { in-range = in-range file .0 range; length-is = is },

@@ -1,4 +1,4 @@
--- The theorems whose statements are in specs/, and the lemmas behind them; then the laws behind the code.
+-- The theorems whose statements are in specs/, and the lemmas behind them.
 pub mod Lengths
 pub mod Keeps
 pub mod Answered
@@ -10,9 +10,3 @@ pub mod Small
 pub mod Longer
 pub mod SameSet
 pub mod Samples
-pub mod LayoutTests
-pub mod ArrayTests
-pub mod StepTests
-pub mod Contents
-pub mod Whole
-pub mod Cut

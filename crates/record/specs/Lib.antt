@@ -3,7 +3,6 @@
 pub mod Layout
 pub mod Answer
 pub mod Lent
-pub mod Parts
 pub mod Proof
 pub mod Reasons
 pub mod Promises

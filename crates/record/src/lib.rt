@@ -1,7 +1,2 @@
-// The check of a record: its layout, tests 1 to 15, its signers.
-mod arrays;
-pub mod check;
-mod ending;
-mod layout;
-pub mod limits;
+// The answer for a record: granted, with the number of its signers, or refused. `record_check` has the check.
 pub mod verdict;

@@ -7,7 +7,7 @@ use answers::answer_line::answer_exchange_line;
 use answers::answer_line::answer_line;
 use answers::answer_line::line_buffer;
 use ending::ends_with;
-use exchange::limits::file_buffer;
+use exchange_check::limits::file_buffer;
 use input::read_input;
 use libc::STDOUT_FILENO;
 

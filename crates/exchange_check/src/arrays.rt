@@ -1,0 +1,25 @@
+// Tests 4, 5 and 7: the table, and the statements' numbers.
+ghost use mathlib.Core.Path.{_≡_};
+ghost use Rattle.file.specs.Tests.{SizedTable};
+ghost use Rattle.exchange_check.specs.Parts.{arrayTests};
+use file::numbers::first_outside;
+use table::check::Tested;
+use table::check::check_table;
+use table::place::Place;
+
+// 4, 5 and 7, over a table of a size that 2 allows. "Places for 7 run through both lists": these are the two, one after the other.
+pub(crate) fn check_arrays(heads: &[u16], seconds: &[u16], lists: &[u16]) -> Tested
+    requires { ⌜ SizedTable (now heads) (now seconds) ⌝ }
+    ensures { λ r. ⌜ r ≡ arrayTests (now (heads .entry)) (now (seconds .entry)) (now (lists .entry)) ⌝ }
+{
+    if let Tested::Refused { number, place } = check_table(heads, seconds) {
+        return Tested::Refused { number, place };
+    }
+    if let Place::At(i) = first_outside(heads.len(), lists) {
+        return Tested::Refused {
+            number: 7,
+            place: i,
+        };
+    }
+    Tested::Passed
+}

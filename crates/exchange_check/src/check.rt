@@ -1,0 +1,72 @@
+// The check of an exchange file, the entry point: every test of 01 but 6 and 8, in its order.
+ghost use Prim.Native.Nat.{_≤_};
+ghost use mathlib.Core.Path.{_≡_};
+ghost use lib.ListN.{length};
+ghost use Rattle.file.specs.Tests.{SizedTable};
+ghost use Rattle.exchange.specs.Answer.{exchangeAnswer};
+ghost use Rattle.exchange.specs.Proofs.{Sized};
+ghost use Rattle.exchange_check.specs.Parts.{mostWords, arraysAnswer};
+use crate::arrays::check_arrays;
+use crate::ending::check_steps;
+use crate::layout::check_layout;
+use crate::layout::read_sizes;
+use crate::limits::MOST_WORDS;
+use exchange::verdict::Verdict;
+use file::words::read_words;
+use table::check::Tested;
+
+// 4 to 15. The two lists stand one after the other in `lists`.
+fn check_contents(
+    heads: &[u16],
+    seconds: &[u16],
+    lists: &[u16],
+    first: &[u16],
+    second: &[u16],
+    steps: &[u16],
+) -> Verdict
+    requires { ⌜ SizedTable (now heads) (now seconds) ⌝ }
+    ensures { λ r. ⌜ r ≡ arraysAnswer (now (heads .entry)) (now (seconds .entry)) (now (lists .entry)) (now (first .entry)) (now (second .entry)) (now (steps .entry)) ⌝ }
+{
+    if let Tested::Refused { number, place } = check_arrays(heads, seconds, lists) {
+        return Verdict::Refused { number, place };
+    }
+    if let Tested::Refused { number, place } = check_steps(heads, seconds, first, second, steps) {
+        return Verdict::Refused { number, place };
+    }
+    Verdict::Equal
+}
+
+// 4 to 15 of a file that 1 to 3 let pass. Its words are read into `words`, which has room for the longest exchange file's.
+fn check_sized(file: &[u8], words: &mut [u16]) -> Verdict
+    requires { ⌜ Sized (now file) ⌝ }
+    requires { ⌜ mostWords ≤ length (now words) ⌝ }
+    ensures { λ r. ⌜ r ≡ exchangeAnswer (now (file .entry)) ⌝ }
+{
+    read_words(file, words);
+    let s = read_sizes(file);
+    let seconds_from = 4 + s.formulas as usize;
+    let first_from = seconds_from + s.formulas as usize;
+    let second_from = first_from + s.first as usize;
+    let steps_from = second_from + s.second as usize;
+    let end = steps_from + s.steps as usize;
+    check_contents(
+        &words[4..seconds_from],
+        &words[seconds_from..first_from],
+        &words[first_from..steps_from],
+        &words[first_from..second_from],
+        &words[second_from..steps_from],
+        &words[steps_from..end],
+    )
+}
+
+// The answer for a file of any bytes and length: equal exactly where it carries all proofs (`EqualExactly`), and so only for lists equal in force.
+// Nothing is lent but the file, which is only read.
+pub fn check_exchange(file: &[u8]) -> Verdict
+    ensures { λ r. ⌜ r ≡ exchangeAnswer (now (file .entry)) ⌝ }
+{
+    if let Tested::Refused { number, place } = check_layout(file) {
+        return Verdict::Refused { number, place };
+    }
+    let mut words = [0u16; MOST_WORDS];
+    check_sized(file, &mut words)
+}

@@ -1,0 +1,97 @@
+// The check of a record, the entry point: every test of 01, in its order.
+ghost use Prim.Native.Nat.{_≤_};
+ghost use mathlib.Core.Path.{_≡_};
+ghost use lib.ListN.{length};
+ghost use Rattle.file.specs.Tests.{SizedTable};
+ghost use Rattle.record.specs.Answer.{recordAnswer};
+ghost use Rattle.record.specs.Lent.{Left};
+ghost use Rattle.record.specs.Proof.{Sized};
+ghost use Rattle.record_check.specs.Parts.{mostWords, granted, arraysAnswer, listAfter};
+use crate::arrays::check_arrays;
+use crate::ending::check_steps;
+use crate::layout::check_layout;
+use crate::layout::read_sizes;
+use crate::limits::MOST_WORDS;
+use file::words::read_words;
+use file::words::word_at;
+use record::verdict::Verdict;
+use signers::collect::write_signers;
+use table::check::Tested;
+
+// "Granted gives their count": the signers go into the list, which is long enough since 8 has passed.
+fn grant(heads: &[u16], seconds: &[u16], statements: &[u16], signers: &mut [u16]) -> Verdict
+    ensures { λ r. ⌜ r ≡ granted (now (heads .entry)) (now (seconds .entry)) (now (statements .entry)) ⌝ }
+    ensures { λ r. ⌜ now (signers .exit) ≡ listAfter r (now (heads .entry)) (now (seconds .entry)) (now (statements .entry)) (now (signers .entry)) ⌝ }
+{
+    Verdict::Granted(write_signers(heads, seconds, statements, signers))
+}
+
+// 4 to 15, and the signers' list: written only once all tests have passed.
+fn check_contents(
+    heads: &[u16],
+    seconds: &[u16],
+    statements: &[u16],
+    goal: u16,
+    steps: &[u16],
+    signers: &mut [u16],
+) -> Verdict
+    requires { ⌜ SizedTable (now heads) (now seconds) ⌝ }
+    ensures { λ r. ⌜ r ≡ arraysAnswer (now (heads .entry)) (now (seconds .entry)) (now (statements .entry)) goal (now (steps .entry)) (length (now (signers .entry))) ⌝ }
+    ensures { λ r. ⌜ now (signers .exit) ≡ listAfter r (now (heads .entry)) (now (seconds .entry)) (now (statements .entry)) (now (signers .entry)) ⌝ }
+{
+    if let Tested::Refused { number, place } = check_arrays(
+        heads,
+        seconds,
+        statements,
+        goal,
+        signers.len(),
+    ) {
+        return Verdict::Refused { number, place };
+    }
+    if let Tested::Refused { number, place } = check_steps(
+        heads,
+        seconds,
+        statements,
+        goal,
+        steps,
+    ) {
+        return Verdict::Refused { number, place };
+    }
+    grant(heads, seconds, statements, signers)
+}
+
+// 4 to 15 of a file that 1 to 3 let pass. Its words are read into `words`, which has room for the longest record's.
+fn check_sized(file: &[u8], words: &mut [u16], signers: &mut [u16]) -> Verdict
+    requires { ⌜ Sized (now file) ⌝ }
+    requires { ⌜ mostWords ≤ length (now words) ⌝ }
+    ensures { λ r. ⌜ r ≡ recordAnswer (now (file .entry)) (length (now (signers .entry))) ⌝ }
+    ensures { λ r. ⌜ Left (now (file .entry)) r (now (signers .entry)) (now (signers .exit)) ⌝ }
+{
+    read_words(file, words);
+    let s = read_sizes(file);
+    let seconds_from = 4 + s.formulas as usize;
+    let statements_from = seconds_from + s.formulas as usize;
+    let steps_from = statements_from + s.statements as usize;
+    let end = steps_from + s.steps as usize;
+    check_contents(
+        &words[4..seconds_from],
+        &words[seconds_from..statements_from],
+        &words[statements_from..steps_from],
+        word_at(file, 3),
+        &words[steps_from..end],
+        signers,
+    )
+}
+
+// The answer for a file of any bytes and length. On a grant the signers stand in the lent list from its start, in some order, and the words after
+// them are as they were; on a refusal the whole list is.
+pub fn check_record(file: &[u8], signers: &mut [u16]) -> Verdict
+    ensures { λ r. ⌜ r ≡ recordAnswer (now (file .entry)) (length (now (signers .entry))) ⌝ }
+    ensures { λ r. ⌜ Left (now (file .entry)) r (now (signers .entry)) (now (signers .exit)) ⌝ }
+{
+    if let Tested::Refused { number, place } = check_layout(file) {
+        return Verdict::Refused { number, place };
+    }
+    let mut words = [0u16; MOST_WORDS];
+    check_sized(file, &mut words, signers)
+}
