@@ -4,8 +4,8 @@ ghost use Rattle.file.specs.Tests.{SizedTable};
 ghost use Rattle.exchange_check.specs.Parts.{arrayTests};
 use file::numbers::first_outside;
 use table::check::Tested;
-use table::check::check_table;
 use table::place::Place;
+use table_check::check::check_table;
 
 // 4, 5 and 7, over a table of a size that 2 allows. "Places for 7 run through both lists": these are the two, one after the other.
 pub(crate) fn check_arrays(heads: &[u16], seconds: &[u16], lists: &[u16]) -> Tested

@@ -6,8 +6,8 @@ use file::numbers::first_outside;
 use file::numbers::is_outside;
 use signers::collect::signer_count;
 use table::check::Tested;
-use table::check::check_table;
 use table::place::Place;
+use table_check::check::check_table;
 
 // 4 to 8, over a table of a size that 2 allows.
 pub(crate) fn check_arrays(

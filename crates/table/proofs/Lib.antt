@@ -1,4 +1,5 @@
--- The theorems whose statements are in specs/, and the lemmas behind them and behind the code. What stands above leans on Shapes besides.
+-- The theorems whose statements are in specs/, and the lemmas behind them and behind the code, here and in `table_check`. What stands above
+-- leans on Shapes besides.
 pub mod Choice
 pub mod First
 pub mod Entries
@@ -9,7 +10,4 @@ pub mod Shapes
 pub mod Number
 pub mod Answers
 pub mod Passed
-pub mod Scan
-pub mod Walk
-pub mod Buckets
 pub mod Samples

@@ -1,7 +1,6 @@
-// Formula tables of document 01: an entry taken apart, and tests 2, 4 and 5 over a table that is lent as two arrays.
+// Formula tables of document 01: an entry taken apart, the limits, what the tests of a table answer, and test 2. The code of 4 and 5 is in
+// `table_check`.
 pub mod check;
 pub mod entry;
 pub mod limits;
-pub mod order;
 pub mod place;
-mod repeat;

@@ -1,0 +1,51 @@
+-- The faults that tests 4 and 5 look for, as a loop over both arrays finds them. Assumes nothing.
+use Prim.Native.Nat.{ℕ, _+_, _<_, min}
+use native.Mathlib.Omega.{arith}
+use mathlib.Core.Bool.{Bool, true, false, not}
+use mathlib.Core.List.{List}
+use mathlib.Core.Path.{_≡_, sym, _∙_}
+use lib.ListN.{length, getD}
+use Rattle.table.specs.declared.place.Place.the-variants.{At, Nowhere}
+use Rattle.table.specs.First.{first, found}
+use Rattle.table.specs.Entry.{entry}
+use Rattle.table.specs.Tests.{entries, entryAt, right, wrongEntry, same, repeatedEntry}
+use Rattle.table.proofs.First.{first-none-more, first-at}
+use Rattle.table.proofs.Entries.{length-entries, entry-at}
+
+module _ (hs ss : List ℕ) where
+  -- The entry of number i is wrong.
+  abbrev pub wrong : ℕ → Bool
+  wrong i = not (right i (entryAt (entries hs ss) i))
+
+  -- Whether it is, as the loop asks.
+  pub judged :
+      (i : ℕ) (b : Bool) → i < length hs → i < length ss → b ≡ right i (entry (getD hs i 0) (getD ss i 0)) → wrong i ≡ not b
+  judged i b in-heads in-seconds asked = cc (entry-at hs ss i in-heads in-seconds)
+
+  -- Entry i is wrong and none before it is: 4 answers i.
+  pub wrong-at : (i : ℕ) → i < length hs → i < length ss → first wrong i ≡ Nowhere → wrong i ≡ true → wrongEntry (entries hs ss) ≡ At i
+  unfolding wrongEntry
+  wrong-at i in-heads in-seconds none here = first-at wrong (length (entries hs ss)) i none here (omega (arith, length-entries hs ss))
+
+  -- None is wrong before the end of the shorter array: 4 finds no fault.
+  pub wrong-nowhere : (i : ℕ) → i ≡ min (length hs) (length ss) → first wrong i ≡ Nowhere → wrongEntry (entries hs ss) ≡ Nowhere
+  unfolding wrongEntry
+  wrong-nowhere i end none = cc (length-entries hs ss)
+
+  -- Entry i has the head and second of an earlier one.
+  abbrev pub repeated : ℕ → Bool
+  repeated i = found (first (same hs ss i) i)
+
+  -- Entry i is repeated and none before it is: 5 answers i.
+  pub repeated-at : (i : ℕ) (b : Bool) → i < length hs → first repeated i ≡ Nowhere → b ≡ repeated i → b ≡ true → repeatedEntry hs ss ≡ At i
+  unfolding repeatedEntry
+  repeated-at i b in-heads none asked here = first-at repeated (length hs) i none (sym asked ∙ here) in-heads
+
+  -- Entry i is not repeated, and none before it is.
+  pub repeated-none-more : (i : ℕ) (b : Bool) → first repeated i ≡ Nowhere → b ≡ repeated i → b ≡ false → first repeated (i + 1) ≡ Nowhere
+  repeated-none-more i b none asked here = first-none-more repeated i none (sym asked ∙ here)
+
+  -- None is repeated: 5 finds no fault.
+  pub repeated-nowhere : (i : ℕ) → i ≡ length hs → first repeated i ≡ Nowhere → repeatedEntry hs ss ≡ Nowhere
+  unfolding repeatedEntry
+  repeated-nowhere i end none = cc

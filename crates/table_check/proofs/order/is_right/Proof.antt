@@ -1,0 +1,18 @@
+-- `table_check::order::is_right` meets its contract: it asks what `bounded` says test 4 asks, the second operand only if the first is below its bound. Assumes nothing.
+use borrow.Author.Needs.{needs}
+use Rattle.table_check.proofs.Bounds.{asked-both, asked-first}
+use Rattle.table_check.proofs.order.is_right.Statement.{statement}
+use Rattle.table_check.proofs.order.is_right.Tie as tie
+
+returns : tie.Need-returns
+returns c =
+    let a = c .before .before .before .args in
+    asked-both (a .i) (a .head) (a .second) _ _ (c .before .before .first-bound .ensures) (c .before .if1 .taken) (c .second-bound .ensures)
+
+returns-2 : tie.Need-returns-2
+returns-2 c =
+    let a = c .before .before .args in
+    asked-first (a .i) (a .head) (a .second) _ (c .before .first-bound .ensures) (c .if1 .left)
+
+pub is-right-spec : {M : Type 1} → statement M
+is-right-spec = tie.close (tie.spec (λ c. search needs) (λ c κs. search needs) (λ c κs. search needs) returns returns-2)

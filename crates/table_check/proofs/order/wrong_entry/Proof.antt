@@ -1,0 +1,65 @@
+-- `table_check::order::wrong_entry` meets its contract. The loop's invariant: no entry before i is wrong. Assumes nothing.
+use Prim.Native.Nat.{_≤_, _-_}
+use native.Mathlib.Omega.{arith}
+use mathlib.Core.Bool.{not}
+use mathlib.Core.Path.{_≡_, refl, sym, _∙_}
+use lib.ListN.{length}
+use borrow.Author.Needs.{needs}
+use borrow.Author.Tests.{ltb-true, ltb-false}
+use Rattle.table.specs.declared.place.Place.the-variants.{Nowhere}
+use Rattle.table.specs.First.{first}
+use Rattle.table.proofs.First.{first-none-more}
+use Rattle.table_check.proofs.Scan.{wrong, judged, wrong-at, wrong-nowhere}
+use Rattle.table_check.proofs.order.wrong_entry.Statement.{statement}
+use Rattle.table_check.proofs.order.wrong_entry.Tie as tie
+
+abbrev Inv-loop : tie.InvT-loop
+Inv-loop heads seconds i₀ i = (i ≤ length heads) × (i ≤ length seconds) × (first (wrong heads seconds) i ≡ Nowhere)
+
+abbrev μ-loop : tie.MeasureT-loop
+μ-loop heads seconds i₀ i = length heads - i
+
+loop-holds : tie.Need-loop-holds Inv-loop μ-loop
+unfolding first
+loop-holds c = (omega arith, omega arith, refl)
+
+-- what is_right answered of entry i
+asked :
+    (c : tie.After-is-right Inv-loop μ-loop) → let a = c .before .before .before .before .before .before .before .before .args in
+    wrong (a .heads .now) (a .seconds .now) (c .before .before .before .before .before .loop .i) ≡ not (c .is-right .result)
+asked c = judged _ _ _ _ (omega arith) (omega (arith, ltb-true)) (c .is-right .ensures)
+
+returns : tie.Need-returns Inv-loop μ-loop
+returns c =
+    let l = c .before .before .before .before .before .before .loop in
+    sym (wrong-at _ _ (l .i) (omega arith) (omega (arith, ltb-true)) (l .inv .2) (asked (c .before) ∙ c .if2 .taken))
+
+loop-again : tie.Need-loop-again Inv-loop μ-loop
+loop-again c =
+    let l = c .before .before .before .before .before .before .loop in
+    (omega arith, omega (arith, ltb-true), first-none-more (wrong _ _) (l .i) (l .inv .2) (asked (c .before) ∙ c .if2 .left))
+
+returns-2 : tie.Need-returns-2 Inv-loop μ-loop
+returns-2 c = sym (wrong-nowhere _ _ (c .before .before .loop .i) (omega (arith, ltb-false)) (c .before .before .loop .inv .2))
+
+returns-3 : tie.Need-returns-3 Inv-loop μ-loop
+returns-3 c = sym (wrong-nowhere _ _ (c .before .loop .i) (omega arith) (c .before .loop .inv .2))
+
+pub wrong-entry-spec : {M : Type 1} → statement M
+wrong-entry-spec =
+    tie.close
+    (tie.spec
+    Inv-loop
+    μ-loop
+    loop-holds
+    (λ c. search needs)
+    (λ c. search needs)
+    (λ c. search needs)
+    (λ c. search needs)
+    (λ c κs. search needs)
+    returns
+    (λ c. search needs)
+    (λ c. search needs)
+    loop-again
+    returns-2
+    returns-3)
