@@ -1,8 +1,8 @@
 // "one reads an exchange file .. prints one line." (01) All but reading and writing is `answer_exchange_line`'s.
 use answers::answer_line::answer_exchange_line;
 use answers::answer_line::line_buffer;
-use exchange_check::limits::file_buffer;
 use input::read_input;
+use layout_check::exchange_limits::file_buffer;
 use libc::STDERR_FILENO;
 use libc::STDIN_FILENO;
 use libc::STDOUT_FILENO;

@@ -3,10 +3,10 @@
 use answers::answer_line::answer_line;
 use answers::answer_line::line_buffer;
 use input::read_input;
+use layout_check::record_limits::file_buffer;
 use libc::STDERR_FILENO;
 use libc::STDIN_FILENO;
 use libc::STDOUT_FILENO;
-use record_check::limits::file_buffer;
 
 fn main() {
     let mut file = file_buffer();

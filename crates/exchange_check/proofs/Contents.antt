@@ -7,7 +7,8 @@ use Rattle.table.specs.declared.check.Tested.the-variants as T
 use Rattle.exchange.specs.declared.verdict.Verdict.{Verdict}
 use Rattle.exchange.specs.declared.verdict.Verdict.the-variants.{Equal, Refused}
 use Rattle.exchange.specs.Answer.{afterTests}
-use Rattle.exchange_check.specs.Parts.{arrayTests, stepTests, arraysAnswer}
+use Rattle.steps_check.specs.ExchangeSteps.{stepTests}
+use Rattle.exchange_check.specs.Parts.{arrayTests, arraysAnswer}
 
 module _ (heads seconds lists some others steps : List ℕ) {t : Tested} (tested : t ≡ arrayTests heads seconds lists) where
   abbrev all : Verdict

@@ -12,8 +12,8 @@ use Rattle.file.proofs.Parts.{part-joined, cut}
 use Rattle.exchange.specs.Layout.{formulas, firstCount, secondCount, stepCount, heads, seconds, firstList, secondList, steps}
 use Rattle.exchange.specs.Proofs.{Sized}
 use Rattle.exchange.proofs.Lengths.{length-words, sized-table}
-use Rattle.exchange_check.specs.declared.layout.Sizes.{Sizes}
-use Rattle.exchange_check.specs.Parts.{mostWords, sizesOf}
+use Rattle.layout_check.specs.declared.exchange_layout.Sizes.{Sizes}
+use Rattle.layout_check.specs.ExchangeLayout.{sizesOf}
 
 -- The table has a size that 2 allows.
 pub table-sized : (file : List ℕ) → Sized file → {hs ss : List ℕ} → hs ≡ heads file → ss ≡ seconds file → SizedTable hs ss
@@ -42,9 +42,9 @@ pub record Cuts (file words : List ℕ) (s : Sizes) : Type 0 where
   pub second-cut : take (stepsFrom s - secondFrom s) (drop (secondFrom s) words) ≡ secondList file
   pub steps-cut : take (stepsFrom s + s .steps - stepsFrom s) (drop (stepsFrom s) words) ≡ steps file
 
--- The code reads the words into a list that has room for the longest exchange file, and the sizes s.
+-- The code reads the words into a list that has room for them, and the sizes s.
 module _
-    (file : List ℕ) (keeps-size : Sized file) (old : List ℕ) {words : List ℕ} {s : Sizes} (room : mostWords ≤ length old)
+    (file : List ℕ) (keeps-size : Sized file) (old : List ℕ) {words : List ℕ} {s : Sizes} (room : length file ≤ 2 * length old)
     (read : words ≡ written old (fileWords file)) (is : s ≡ sizesOf file)
   where
     -- the sizes that the code read
@@ -66,13 +66,7 @@ module _
 
     -- All words of the file have room,
     has-room : length (fileWords file) ≤ length old
-    has-room =
-        let r = keeps-size .in-range in
-        let f = r .few-formulas in
-        let t = r .few-first in
-        let u = r .few-second in
-        let n = r .few-steps in
-        omega (arith, many)
+    has-room = omega (arith, keeps-size .length-is, many)
 
     -- and the last part ends with them.
     end : stepsFrom s + s .steps ≤ length words

@@ -1,6 +1,5 @@
 -- The three parts of the check are `exchangeAnswer`. Assumes nothing.
 use Prim.Native.Nat.{ℕ}
-use mathlib.Core.Bool.{Bool}
 use mathlib.Core.Path.{_≡_, refl, sym, ap, _∙_}
 use mathlib.Core.List.{List, [], _∷_, _++_}
 use Rattle.table.specs.declared.check.Tested.{Tested}
@@ -10,27 +9,21 @@ use Rattle.steps.specs.declared.verdict.Verdict as Step
 use Rattle.steps.specs.declared.verdict.Verdict.the-variants as Steps
 use Rattle.steps.specs.Run.{tested}
 use Rattle.file.specs.Refusals.{Test, test, firstRefusal}
-use Rattle.file.specs.Tests as Shared
 use Rattle.file.proofs.Refusals.{passed-by-all, joined-refused, joined-passed}
 use Rattle.exchange.specs.declared.verdict.Verdict.{Verdict}
 use Rattle.exchange.specs.declared.verdict.Verdict.the-variants.{Equal, Refused}
-use Rattle.exchange.specs.Layout.{formulas, firstCount, secondCount, stepCount, heads, seconds, firstList, secondList, steps, size, table}
-use Rattle.exchange.specs.Answer.{inRange, statementOutside, tests, stepVerdict, afterTests, afterSteps, exchangeAnswer}
+use Rattle.exchange.specs.Layout.{heads, seconds, firstList, secondList, steps, table}
+use Rattle.exchange.specs.Answer.{statementOutside, tests, stepVerdict, afterTests, afterSteps, exchangeAnswer}
 use Rattle.exchange.specs.Proofs.{Sized}
 use Rattle.exchange.proofs.Lengths.{length-heads}
 use Rattle.exchange.proofs.Keeps.{sized}
-use Rattle.exchange_check.specs.Parts.{layoutTests, arrayTests, arraysAnswer}
+use Rattle.layout_check.specs.ExchangeLayout.{firstTests, layoutTests}
+use Rattle.exchange_check.specs.Parts.{arrayTests, arraysAnswer}
 
 module _ (file : List ℕ) where
-  -- the tests of a file in two parts
-  abbrev fit : Bool
-  fit = inRange (formulas file) (firstCount file) (secondCount file) (stepCount file)
-
-  abbrev tests13 : List Test
-  tests13 = Shared.layoutTests file fit (size file)
-
-  abbrev tests47 : List Test
-  tests47 = test 4 (wrongEntry (table file)) ∷ test 5 (repeatedEntry (heads file) (seconds file)) ∷ test 7 (statementOutside file) ∷ []
+  -- 4, 5 and 7, which follow
+  abbrev laterTests : List Test
+  laterTests = test 4 (wrongEntry (table file)) ∷ test 5 (repeatedEntry (heads file) (seconds file)) ∷ test 7 (statementOutside file) ∷ []
 
   -- ---- 1 to 3
 
@@ -38,11 +31,7 @@ module _ (file : List ℕ) where
   pub layout-refused : {t : Tested} {number p : ℕ} → t ≡ layoutTests file → t ≡ T.Refused number p → Refused number p ≡ exchangeAnswer file
   unfolding exchangeAnswer
   layout-refused answered e =
-      ap (λ (z : Tested). afterTests z (afterSteps (stepVerdict file) Equal)) (sym (joined-refused tests13 tests47 (sym answered ∙ e)))
-
-  -- A file that they let pass has the sizes and the length that the layout asks for.
-  pub layout-passed : {t : Tested} → t ≡ layoutTests file → t ≡ T.Passed → Sized file
-  layout-passed answered e = sized file .0 (passed-by-all tests13 .0 (sym answered ∙ e))
+      ap (λ (z : Tested). afterTests z (afterSteps (stepVerdict file) Equal)) (sym (joined-refused (firstTests file) laterTests (sym answered ∙ e)))
 
   -- ---- 4 to 15
 
@@ -50,7 +39,8 @@ module _ (file : List ℕ) where
     -- 4, 5 and 7 are left of the tests
     tests-left : arrayTests (heads file) (seconds file) (firstList file ++ secondList file) ≡ firstRefusal (tests file)
     tests-left =
-        rw (length-heads file keeps-size) (sym (joined-passed tests13 tests47 (passed-by-all tests13 .1 (sized file .1 keeps-size))))
+        let passed = passed-by-all (firstTests file) .1 (sized file .1 keeps-size) in
+        rw (length-heads file keeps-size) (sym (joined-passed (firstTests file) laterTests passed))
 
     -- A verdict on the steps counts as a test does.
     as-test : (v : Step.Verdict) → afterTests (tested v) Equal ≡ afterSteps v Equal

@@ -1,18 +1,19 @@
 // The check of an exchange file, the entry point: every test of 01 but 6 and 8, in its order.
-ghost use Prim.Native.Nat.{_≤_};
+ghost use Prim.Native.Nat.{_*_, _≤_};
 ghost use mathlib.Core.Path.{_≡_};
 ghost use lib.ListN.{length};
 ghost use Rattle.file.specs.Tests.{SizedTable};
 ghost use Rattle.exchange.specs.Answer.{exchangeAnswer};
 ghost use Rattle.exchange.specs.Proofs.{Sized};
-ghost use Rattle.exchange_check.specs.Parts.{mostWords, arraysAnswer};
+ghost use Rattle.exchange_check.specs.Parts.{arraysAnswer};
 use crate::arrays::check_arrays;
-use crate::ending::check_steps;
-use crate::layout::check_layout;
-use crate::layout::read_sizes;
-use crate::limits::MOST_WORDS;
 use exchange::verdict::Verdict;
 use file::words::read_words;
+use layout_check::exchange_layout::check_layout;
+use layout_check::exchange_layout::read_sizes;
+use layout_check::exchange_limits::MOST_WORDS;
+use layout_check::limits::FEW_WORDS;
+use steps_check::exchange_steps::check_steps;
 use table::check::Tested;
 
 // 4 to 15. The two lists stand one after the other in `lists`.
@@ -36,10 +37,10 @@ fn check_contents(
     Verdict::Equal
 }
 
-// 4 to 15 of a file that 1 to 3 let pass. Its words are read into `words`, which has room for the longest exchange file's.
+// 4 to 15 of a file that 1 to 3 let pass. Its words are read into `words`, which has room for them.
 fn check_sized(file: &[u8], words: &mut [u16]) -> Verdict
     requires { ⌜ Sized (now file) ⌝ }
-    requires { ⌜ mostWords ≤ length (now words) ⌝ }
+    requires { ⌜ length (now file) ≤ 2 * length (now words) ⌝ }
     ensures { λ r. ⌜ r ≡ exchangeAnswer (now (file .entry)) ⌝ }
 {
     read_words(file, words);
@@ -66,6 +67,10 @@ pub fn check_exchange(file: &[u8]) -> Verdict
 {
     if let Tested::Refused { number, place } = check_layout(file) {
         return Verdict::Refused { number, place };
+    }
+    if file.len() <= 2 * FEW_WORDS {
+        let mut words = [0u16; FEW_WORDS];
+        return check_sized(file, &mut words);
     }
     let mut words = [0u16; MOST_WORDS];
     check_sized(file, &mut words)

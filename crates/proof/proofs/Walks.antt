@@ -2,6 +2,7 @@
 use Prim.Native.Nat.{ℕ, suc, _+_, _<_, _≤_}
 use native.Mathlib.Omega.{arith}
 use native.Mathlib.Numerals.{add-one}
+use mathlib.Core.Bool.{Bool}
 use mathlib.Core.Path.{_≡_, refl, sym, ap, _∙_, subst}
 use mathlib.Core.List.{List, [], _∷_, _++_, map}
 use lib.ListN.{length, getD}
@@ -18,19 +19,18 @@ use Rattle.steps.specs.Run.{after}
 use Rattle.steps.specs.Figure1.{same, step}
 use Rattle.steps.specs.Parts.{andThen, walkFrom}
 use Rattle.steps.proofs.Parts.{refusedAt, walk-done, walk-ends, walk-steps, one-after-another}
+use Rattle.hypotheses.specs.Slots.{Held, shown, heldAll, heldAdded, addedCount}
+use Rattle.hypotheses.proofs.Held.{held-added}
+use Rattle.hypotheses.proofs.Shown.{held-shows, step-shown}
 use Rattle.proof.specs.declared.walk.Walk.{Walk}
 use Rattle.proof.specs.declared.walk.Walked.{Walked}
 use Rattle.proof.specs.declared.walk.Walked.the-variants.{Done, Refused}
-use Rattle.proof.specs.Slots.{Held, heldAll, heldAdded, addedCount}
-use Rattle.rules.specs.Slots.{shown}
-use Rattle.rules.proofs.Shown.{step-shown}
 use Rattle.proof.specs.Walks.{at, below, back, obligation, outcome, Forward, AnswersGoal, AnswersPremise}
 use Rattle.steps.proofs.Cases.{OfPremises}
 use Rattle.proof.proofs.Crossing.{Other, FirstAlone, step-first-alone}
-use Rattle.proof.proofs.Held.{held-added, held-shows}
 
 -- The walk w is at a word, where `open` answered x.
-pub record Here (es : List Entry) (steps slots : List ℕ) (w : Walk) (x : Opened) : Type 0 where
+pub record Here (es : List Entry) (steps : List ℕ) (slots : List Bool) (w : Walk) (x : Opened) : Type 0 where
   pub inside : w .next < length steps
   pub opens : x ≡ step es (getD steps (w .next) 0) (obligation w (shown slots))
 
@@ -63,14 +63,14 @@ pub verdict-refused : (w : Walk) (verdict : Verdict) (r : Walked) (number place 
 verdict-refused w (Verdicts.Closed q) r number place e is = let z : _≡_ {A = ℕ} 0 1 = cc in absurd (omega arith)
 verdict-refused w (Verdicts.Refused n p) r number place e is = let f : Refused n p ≡ Refused number place = sym e ∙ is in cc
 
-module _ (es : List Entry) (steps slots : List ℕ) (w : Walk) where
+module _ (es : List Entry) (steps : List ℕ) (slots : List Bool) (w : Walk) where
   -- The words end.
   pub at-end : length steps ≤ w .next → AnswersGoal es steps slots w (Refused 9 (w .next))
   at-end l = record { answer = λ hs h. rw (walk-ends same mostDepth es steps (w .next) (obligation w hs) [] l); forward = tt }
 
   -- A premise with its hypotheses added.
   pub with-added : (p : Premise) (next : ℕ) (r : Walked)
-      → AnswersGoal es steps (heldAdded slots (p .added) (w .held)) (below w (p .goal) (addedCount (p .added)) next) r
+      → AnswersGoal es steps (heldAdded slots (p .added)) (below w (p .goal) (addedCount (p .added)) next) r
       → AnswersPremise es steps slots w p next (back w r)
   with-added p next r proves = record {
     answer = λ hs h.
@@ -83,8 +83,8 @@ module _ (es : List Entry) (steps slots : List ℕ) (w : Walk) where
   }
 
   -- The same, by what each call of the code answered.
-  pub adds : (p : Premise) (next count : ℕ) (v : Walk) (during : List ℕ) (r₁ r : Walked) → count ≡ addedCount (p .added)
-      → v ≡ below w (p .goal) count next → during ≡ heldAdded slots (p .added) (w .held) → AnswersGoal es steps during v r₁ → r ≡ back w r₁
+  pub adds : (p : Premise) (next count : ℕ) (v : Walk) (during : List Bool) (r₁ r : Walked) → count ≡ addedCount (p .added)
+      → v ≡ below w (p .goal) count next → during ≡ heldAdded slots (p .added) → AnswersGoal es steps during v r₁ → r ≡ back w r₁
       → AnswersPremise es steps slots w p next r
   adds p next count v during r₁ r counts is held proves e = rw e (with-added p next r₁ (rw (held, is, counts) at proves))
 
@@ -95,12 +95,12 @@ module _ (es : List Entry) (steps slots : List ℕ) (w : Walk) where
   alone p next v r₁ r none is proves e = record {
     answer = λ hs h.
         e ∙ with-added p next r₁
-        (subst (λ a. AnswersGoal es steps (heldAdded slots a (w .held)) (below w (p .goal) (addedCount a) next) r₁) (sym (none hs h)) (rw is at proves))
+        (subst (λ a. AnswersGoal es steps (heldAdded slots a) (below w (p .goal) (addedCount a) next) r₁) (sym (none hs h)) (rw is at proves))
         .answer hs h;
     forward = rw e (back-forward w next r₁ (rw is at (proves .forward)));
   }
 
-module _ {es : List Entry} {steps slots : List ℕ} {w : Walk} {x : Opened} (here : Here es steps slots w x) where
+module _ {es : List Entry} {steps : List ℕ} {slots : List Bool} {w : Walk} {x : Opened} (here : Here es steps slots w x) where
   -- what the machine answers for a premise from word n on
   abbrev premiseFrom : ℕ → List ℕ → Premise → Walked
   premiseFrom n hs p = outcome w (walkFrom same mostDepth es steps n (under (obligation w hs) p ∷ []))
@@ -169,7 +169,7 @@ module _ {es : List Entry} {steps slots : List ℕ} {w : Walk} {x : Opened} (her
     forward = tt;
   }
 
-  pub two : {p q : Premise} {slots₁ : List ℕ} {r₁ r : Walked} {v : Walk} → x ≡ Opening.Two p q
+  pub two : {p q : Premise} {slots₁ : List Bool} {r₁ r : Walked} {v : Walk} → x ≡ Opening.Two p q
       → AnswersPremise es steps slots w p (w .next + 1) r₁ → slots₁ ≡ slots → r₁ ≡ Done v
       → AnswersPremise es steps slots₁ w q (v .next) r → AnswersGoal es steps slots w r
   two {p} {q} {slots₁} {r₁} {r} {v} e first kept is second = record {

@@ -1,5 +1,6 @@
 -- What the walk of the code stands for: an obligation of the machine, with hypotheses that the slots hold. Assumes nothing.
 use Prim.Native.Nat.{ℕ, _+_, _<_}
+use mathlib.Core.Bool.{Bool}
 use mathlib.Core.Path.{_≡_}
 use mathlib.Core.List.{List, [], _∷_}
 use Rattle.table.specs.declared.entry.Entry.{Entry}
@@ -12,10 +13,10 @@ use Rattle.steps.specs.declared.verdict.Verdict.the-variants as Verdicts
 use Rattle.steps.specs.Obligation.{Obligation, under}
 use Rattle.steps.specs.Figure1.{same}
 use Rattle.steps.specs.Parts.{walkFrom}
+use Rattle.hypotheses.specs.Slots.{Held}
 use Rattle.proof.specs.declared.walk.Walk.{Walk}
 use Rattle.proof.specs.declared.walk.Walked.{Walked}
 use Rattle.proof.specs.declared.walk.Walked.the-variants.{Done, Refused}
-use Rattle.proof.specs.Slots.{Held}
 
 abbrev pub IsTruth : Goal → Type 0
 IsTruth (True f) = Unit
@@ -54,14 +55,14 @@ Forward next (Refused number place) = Unit
 
 -- The answer r is the machine's, for walk w and the obligation o from word next on, whatever hypotheses the slots hold. (Slots that hold no
 -- list of w's count leave r free. `check_goal` is called with slots that hold the statements, so its contract has no such case.)
-pub record Answers (es : List Entry) (steps slots : List ℕ) (w : Walk) (next : ℕ) (o : List ℕ → Obligation) (r : Walked) : Type 0 where
+pub record Answers (es : List Entry) (steps : List ℕ) (slots : List Bool) (w : Walk) (next : ℕ) (o : List ℕ → Obligation) (r : Walked) : Type 0 where
   pub answer : (hypotheses : List ℕ) → Held hypotheses slots (w .held)
       → r ≡ outcome w (walkFrom same mostDepth es steps next (o hypotheses ∷ []))
   pub forward : Forward next r
 
 -- what a walk's own goal comes to, and a premise of it from word next on
-abbrev pub AnswersGoal : List Entry → List ℕ → List ℕ → Walk → Walked → Type 0
+abbrev pub AnswersGoal : List Entry → List ℕ → List Bool → Walk → Walked → Type 0
 AnswersGoal es steps slots w r = Answers es steps slots w (w .next) (obligation w) r
 
-abbrev pub AnswersPremise : List Entry → List ℕ → List ℕ → Walk → Premise → ℕ → Walked → Type 0
+abbrev pub AnswersPremise : List Entry → List ℕ → List Bool → Walk → Premise → ℕ → Walked → Type 0
 AnswersPremise es steps slots w p next r = Answers es steps slots w next (λ hypotheses. under (obligation w hypotheses) p) r

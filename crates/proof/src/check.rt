@@ -2,10 +2,10 @@
 ghost use mathlib.Core.Path.{_≡_};
 ghost use lib.ListN.{length};
 ghost use Rattle.proof.specs.Answer.{proofAnswer, proofsAnswer};
-ghost use Rattle.proof.specs.Slots.{Held};
-use crate::hypotheses::hold_all;
+ghost use Rattle.hypotheses.specs.Slots.{Held};
 use crate::walk::Walk;
 use crate::walk::Walked;
+use hypotheses::hypotheses::hold_all;
 use steps::goal::Goal;
 use steps::verdict::Verdict;
 use table::entry::Formula;
@@ -16,7 +16,7 @@ fn check_goal(
     heads: &[u16],
     seconds: &[u16],
     statements: &[u16],
-    slots: &mut [usize],
+    slots: &mut [bool],
     goal: u16,
     steps: &[u16],
 ) -> Verdict
@@ -42,7 +42,7 @@ fn check_goals(
     heads: &[u16],
     seconds: &[u16],
     statements: &[u16],
-    slots: &mut [usize],
+    slots: &mut [bool],
     goals: &[u16],
     steps: &[u16],
 ) -> Verdict
@@ -76,7 +76,7 @@ pub fn check_proofs(
 ) -> Verdict
     ensures { λ r. ⌜ r ≡ proofsAnswer (now (heads .entry)) (now (seconds .entry)) (now (statements .entry)) (now (goals .entry)) (now (steps .entry)) ⌝ }
 {
-    let mut slots = [0usize; MOST_FORMULAS];
+    let mut slots = [false; MOST_FORMULAS];
     hold_all(&mut slots, statements);
     check_goals(heads, seconds, statements, &mut slots, goals, steps)
 }

@@ -5,9 +5,9 @@ ghost use Prim.Native.Nat.{_+_, _*_, _-_, _<_, _^_};
 ghost use lib.ListN.{length};
 ghost use Rattle.table.specs.Tests.{entries};
 ghost use Rattle.proof.specs.Walks as Walks;
-use crate::hypotheses::added_count;
-use crate::hypotheses::hold_added;
-use crate::hypotheses::release_added;
+use hypotheses::hypotheses::added_count;
+use hypotheses::hypotheses::hold_added;
+use hypotheses::hypotheses::release_added;
 use rules::step::open;
 use steps::goal::Goal;
 use steps::opened::Opened;
@@ -73,7 +73,7 @@ impl Walk {
         heads: &[u16],
         seconds: &[u16],
         steps: &[u16],
-        slots: &mut [usize],
+        slots: &mut [bool],
     ) -> Walked
         requires { ⌜ Walks.IsTruth (self .goal) ⌝ }
         requires { ⌜ self .depth + self .held + 3 * (length (now steps) - self .next) < 2 ^ 64 ⌝ }
@@ -124,7 +124,7 @@ impl Walk {
         heads: &[u16],
         seconds: &[u16],
         steps: &[u16],
-        slots: &mut [usize],
+        slots: &mut [bool],
     ) -> Walked
         requires { ⌜ Walks.IsAffirmation (self .goal) ⌝ }
         requires { ⌜ self .depth + self .held + 3 * (length (now steps) - self .next) < 2 ^ 64 ⌝ }
@@ -199,7 +199,7 @@ impl Walk {
         heads: &[u16],
         seconds: &[u16],
         steps: &[u16],
-        slots: &mut [usize],
+        slots: &mut [bool],
     ) -> Walked
         requires { ⌜ self .depth + self .held + 3 + 3 * (length (now steps) - next) < 2 ^ 64 ⌝ }
         ensures { λ r. ⌜ Walks.AnswersPremise (entries (now (heads .entry)) (now (seconds .entry))) (now (steps .entry)) (now (slots .entry)) self premise next r ⌝ }
@@ -208,7 +208,7 @@ impl Walk {
         let goal = premise.goal;
         let added = premise.added;
         let walk = self.below(goal, added_count(added), next);
-        let saved = hold_added(slots, added, self.held);
+        let saved = hold_added(slots, added);
         let walked = match goal {
             Goal::True(_) => walk.truth(heads, seconds, steps, slots),
             Goal::Affirms(_, _) => walk.affirmation(heads, seconds, steps, slots),

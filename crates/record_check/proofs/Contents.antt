@@ -7,7 +7,8 @@ use Rattle.table.specs.declared.check.Tested.the-variants as T
 use Rattle.record.specs.declared.verdict.Verdict.{Verdict}
 use Rattle.record.specs.declared.verdict.Verdict.the-variants.{Refused}
 use Rattle.record.specs.Answer.{afterTests}
-use Rattle.record_check.specs.Parts.{arrayTests, stepTests, granted, arraysAnswer}
+use Rattle.steps_check.specs.RecordSteps.{stepTests}
+use Rattle.record_check.specs.Parts.{arrayTests, granted, arraysAnswer}
 
 module _ (heads seconds statements : List ℕ) (goal : ℕ) (steps : List ℕ) (room : ℕ) {t : Tested} (tested : t ≡ arrayTests heads seconds statements goal room) where
   -- what follows 8

@@ -12,8 +12,8 @@ use Rattle.file.proofs.Parts.{cut}
 use Rattle.record.specs.Layout.{formulas, statementCount, stepCount, heads, seconds, statements, steps}
 use Rattle.record.specs.Proof.{Sized}
 use Rattle.record.proofs.Lengths.{length-words, sized-table}
-use Rattle.record_check.specs.declared.layout.Sizes.{Sizes}
-use Rattle.record_check.specs.Parts.{mostWords, sizesOf}
+use Rattle.layout_check.specs.declared.record_layout.Sizes.{Sizes}
+use Rattle.layout_check.specs.RecordLayout.{sizesOf}
 
 -- The table has a size that 2 allows.
 pub table-sized : (file : List ℕ) → Sized file → {hs ss : List ℕ} → hs ≡ heads file → ss ≡ seconds file → SizedTable hs ss
@@ -31,9 +31,9 @@ pub record Cuts (file words : List ℕ) (s : Sizes) : Type 0 where
       (drop (4 + s .formulas + s .formulas + s .statements) words)
       ≡ steps file
 
--- The code reads the words into a list that has room for the longest record, and the sizes s.
+-- The code reads the words into a list that has room for them, and the sizes s.
 module _
-    (file : List ℕ) (keeps-size : Sized file) (old : List ℕ) {words : List ℕ} {s : Sizes} (room : mostWords ≤ length old)
+    (file : List ℕ) (keeps-size : Sized file) (old : List ℕ) {words : List ℕ} {s : Sizes} (room : length file ≤ 2 * length old)
     (read : words ≡ written old (fileWords file)) (is : s ≡ sizesOf file)
   where
     -- the sizes that the code read
@@ -48,7 +48,7 @@ module _
 
     -- All words of the file have room,
     has-room : length (fileWords file) ≤ length old
-    has-room = let r = keeps-size .in-range in let f = r .few-formulas in let t = r .few-statements in let n = r .few-steps in omega (arith, length-words file keeps-size)
+    has-room = omega (arith, keeps-size .length-is, length-words file keeps-size)
 
     -- and the last part ends with them.
     end : 4 + s .formulas + s .formulas + s .statements + s .steps ≤ length words

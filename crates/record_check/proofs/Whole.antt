@@ -23,7 +23,8 @@ use Rattle.record.proofs.Lengths.{length-heads}
 use Rattle.record.proofs.Keeps.{sized, laterTests}
 use Rattle.record.proofs.Granted.{granted-exactly}
 use Rattle.record.proofs.Answered.{answer-refused}
-use Rattle.record_check.specs.Parts.{firstTests, layoutTests, arrayTests, arraysAnswer, listAfter}
+use Rattle.layout_check.specs.RecordLayout.{firstTests, layoutTests}
+use Rattle.record_check.specs.Parts.{arrayTests, arraysAnswer, listAfter}
 
 -- ---- 1 to 3
 
@@ -32,10 +33,6 @@ pub layout-refused : (file : List ℕ) (room : ℕ) {t : Tested} {number p : ℕ
     → Refused number p ≡ recordAnswer file room
 layout-refused file room {t} {number} {p} answered e =
     sym (answer-refused file room number p .1 (inl (joined-refused (firstTests file) (laterTests file room) (sym answered ∙ e))))
-
--- A file that they let pass has the sizes and the length that the layout asks for.
-pub layout-passed : (file : List ℕ) {t : Tested} → t ≡ layoutTests file → t ≡ T.Passed → Sized file
-layout-passed file answered e = sized file .0 (passed-by-all (firstTests file) .0 (sym answered ∙ e))
 
 -- ---- 4 to 15
 

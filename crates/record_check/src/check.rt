@@ -1,21 +1,22 @@
 // The check of a record, the entry point: every test of 01, in its order.
-ghost use Prim.Native.Nat.{_≤_};
+ghost use Prim.Native.Nat.{_*_, _≤_};
 ghost use mathlib.Core.Path.{_≡_};
 ghost use lib.ListN.{length};
 ghost use Rattle.file.specs.Tests.{SizedTable};
 ghost use Rattle.record.specs.Answer.{recordAnswer};
 ghost use Rattle.record.specs.Lent.{Left};
 ghost use Rattle.record.specs.Proof.{Sized};
-ghost use Rattle.record_check.specs.Parts.{mostWords, granted, arraysAnswer, listAfter};
+ghost use Rattle.record_check.specs.Parts.{granted, arraysAnswer, listAfter};
 use crate::arrays::check_arrays;
-use crate::ending::check_steps;
-use crate::layout::check_layout;
-use crate::layout::read_sizes;
-use crate::limits::MOST_WORDS;
 use file::words::read_words;
 use file::words::word_at;
+use layout_check::limits::FEW_WORDS;
+use layout_check::record_layout::check_layout;
+use layout_check::record_layout::read_sizes;
+use layout_check::record_limits::MOST_WORDS;
 use record::verdict::Verdict;
 use signers::collect::write_signers;
+use steps_check::record_steps::check_steps;
 use table::check::Tested;
 
 // "Granted gives their count": the signers go into the list, which is long enough since 8 has passed.
@@ -60,10 +61,10 @@ fn check_contents(
     grant(heads, seconds, statements, signers)
 }
 
-// 4 to 15 of a file that 1 to 3 let pass. Its words are read into `words`, which has room for the longest record's.
+// 4 to 15 of a file that 1 to 3 let pass. Its words are read into `words`, which has room for them.
 fn check_sized(file: &[u8], words: &mut [u16], signers: &mut [u16]) -> Verdict
     requires { ⌜ Sized (now file) ⌝ }
-    requires { ⌜ mostWords ≤ length (now words) ⌝ }
+    requires { ⌜ length (now file) ≤ 2 * length (now words) ⌝ }
     ensures { λ r. ⌜ r ≡ recordAnswer (now (file .entry)) (length (now (signers .entry))) ⌝ }
     ensures { λ r. ⌜ Left (now (file .entry)) r (now (signers .entry)) (now (signers .exit)) ⌝ }
 {
@@ -91,6 +92,10 @@ pub fn check_record(file: &[u8], signers: &mut [u16]) -> Verdict
 {
     if let Tested::Refused { number, place } = check_layout(file) {
         return Verdict::Refused { number, place };
+    }
+    if file.len() <= 2 * FEW_WORDS {
+        let mut words = [0u16; FEW_WORDS];
+        return check_sized(file, &mut words, signers);
     }
     let mut words = [0u16; MOST_WORDS];
     check_sized(file, &mut words, signers)

@@ -15,8 +15,8 @@ use Rattle.steps.specs.declared.opened.Opened.{Opened}
 use Rattle.steps.specs.Obligation.{Obligation, holds}
 use Rattle.steps.specs.Step.{Rule, names, plain, unknown, rules, applied, opens}
 use Rattle.steps.specs.Figure1.{same}
-use Rattle.rules.specs.Slots.{isHeld}
-use Rattle.rules.proofs.Shown.{Shows}
+use Rattle.hypotheses.specs.Slots.{isHeld}
+use Rattle.hypotheses.proofs.Shown.{Shows}
 use Rattle.rules.specs.Tested.{tested}
 
 -- A number has an entry where both arrays have a word.
@@ -46,7 +46,7 @@ is-applied es (plain rule) o n = refl
 is-applied es unknown o n = refl
 
 -- The slots answer 12 for the hypotheses that they show.
-pub opened : (es : List Entry) (slots : List ℕ) (w : ℕ) (o : Obligation) → Shows slots (o .hypotheses)
+pub opened : (es : List Entry) (slots : List Bool) (w : ℕ) (o : Obligation) → Shows slots (o .hypotheses)
     → {held : Bool} → held ≡ both (ltb (w % 4096) (length es)) (isHeld slots (w % 4096))
     → {r : Opened} → r ≡ tested (getD (rules same es) (w / 4096) unknown) held (w % 4096) (o .goal) → r ≡ opens same es w o
 unfolding opens

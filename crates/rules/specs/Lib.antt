@@ -1,3 +1,2 @@
--- How lent slots stand for hypotheses, and a step with test 12 answered. The meaning of a step is in the crate `steps`.
-pub mod Slots
+-- A step with test 12 answered. The meaning of a step is in the crate `steps`, and how lent slots stand for hypotheses in `hypotheses`.
 pub mod Tested

@@ -7,9 +7,10 @@ ghost use Rattle.table.specs.Tests.{entries};
 ghost use Rattle.steps.specs.Step.{rules, unknown};
 ghost use Rattle.steps.specs.Figure1 as Figure1;
 ghost use Rattle.steps.specs.Figure1.{same};
-ghost use Rattle.rules.specs.Slots.{isHeld, shown};
+ghost use Rattle.hypotheses.specs.Slots.{isHeld, shown};
 ghost use Rattle.rules.specs.Tested.{tested};
 use crate::rules;
+use hypotheses::hypotheses::is_held;
 use steps::goal::Goal;
 use steps::opened::Opened;
 use table::limits::MOST_DEPTH;
@@ -22,16 +23,8 @@ fn is_entry(heads: &[u16], seconds: &[u16], n: u16) -> bool
     i < heads.len() && i < seconds.len()
 }
 
-// Whether the slots show a number as a hypothesis.
-fn is_held(slots: &[usize], n: u16) -> bool
-    ensures { λ r. ⌜ r ≡ isHeld (now (slots .entry)) n ⌝ }
-{
-    let i = n as usize;
-    i < slots.len() && slots[i] != 0
-}
-
 // "12. The named formula isn't a hypothesis here; a number of F or more never is."
-fn is_hypothesis(heads: &[u16], seconds: &[u16], slots: &[usize], n: u16) -> bool
+fn is_hypothesis(heads: &[u16], seconds: &[u16], slots: &[bool], n: u16) -> bool
     ensures { λ r. ⌜ r ≡ both (ltb n (length (entries (now (heads .entry)) (now (seconds .entry))))) (isHeld (now (slots .entry)) n) ⌝ }
 {
     is_entry(heads, seconds, n) && is_held(slots, n)
@@ -76,7 +69,7 @@ fn apply(heads: &[u16], seconds: &[u16], held: bool, code: u16, n: u16, goal: Go
 pub fn open(
     heads: &[u16],
     seconds: &[u16],
-    slots: &[usize],
+    slots: &[bool],
     depth: usize,
     goal: Goal,
     word: u16,

@@ -7,8 +7,8 @@ use answers::answer_line::answer_exchange_line;
 use answers::answer_line::answer_line;
 use answers::answer_line::line_buffer;
 use ending::ends_with;
-use exchange_check::limits::file_buffer;
 use input::read_input;
+use layout_check::exchange_limits::file_buffer;
 use libc::STDOUT_FILENO;
 
 mod ending;

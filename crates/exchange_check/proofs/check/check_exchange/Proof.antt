@@ -1,6 +1,7 @@
 -- `exchange_check::check::check_exchange` meets its contract: 1 to 3, and then the rest. Assumes nothing.
 use borrow.Author.Needs.{needs}
-use Rattle.exchange_check.proofs.Whole.{layout-refused, layout-passed}
+use Rattle.layout_check.proofs.ExchangeLayout.{layout-passed, at-most}
+use Rattle.exchange_check.proofs.Whole.{layout-refused}
 use Rattle.exchange_check.proofs.check.check_exchange.Statement.{statement}
 use Rattle.exchange_check.proofs.check.check_exchange.Tie as tie
 
@@ -11,8 +12,14 @@ returns c =
 
 check-sized-requires : tie.Need-check-sized-requires
 check-sized-requires c κs =
-    let t = c .before .before .before in
-    (layout-passed (t .before .before .args .file .now) (t .check-layout .ensures) (c .before .enum-told .given .1), search needs)
+    let t = c .before .before .before .before in
+    (layout-passed (t .before .before .args .file .now) (t .check-layout .ensures) (c .before .before .enum-told .given .1), search needs)
+
+check-sized-requires-2 : tie.Need-check-sized-requires-2
+check-sized-requires-2 c κs =
+    let t = c .before .before .before .before in
+    let passed = layout-passed (t .before .before .args .file .now) (t .check-layout .ensures) (c .before .before .enum-told .given .1) in
+    (passed, at-most _ passed)
 
 pub check-exchange-spec : {M : Type 1} → statement M
 check-exchange-spec =
@@ -23,5 +30,9 @@ check-exchange-spec =
     returns
     (λ c. search needs)
     (λ c. search needs)
+    (λ c. search needs)
     check-sized-requires
+    (λ c. search needs)
+    (λ c. search needs)
+    check-sized-requires-2
     (λ c. search needs))

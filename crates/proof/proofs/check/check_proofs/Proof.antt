@@ -1,6 +1,6 @@
 -- `check_proofs` meets its contract: the slots hold the statements before the goals are checked. Assumes nothing.
 use borrow.Author.Needs.{needs}
-use Rattle.proof.proofs.Held.{held-all}
+use Rattle.hypotheses.proofs.Held.{held-all}
 use Rattle.proof.proofs.check.check_proofs.Statement.{statement}
 use Rattle.proof.proofs.check.check_proofs.Tie as tie
 

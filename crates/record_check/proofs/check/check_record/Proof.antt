@@ -1,7 +1,8 @@
 -- `record_check::check::check_record` meets its contract: 1 to 3, and then the rest. Assumes nothing.
 use mathlib.Core.Path.{refl}
 use borrow.Author.Needs.{needs}
-use Rattle.record_check.proofs.Whole.{layout-refused, layout-passed}
+use Rattle.layout_check.proofs.RecordLayout.{layout-passed, at-most}
+use Rattle.record_check.proofs.Whole.{layout-refused}
 use Rattle.record_check.proofs.check.check_record.Statement.{statement}
 use Rattle.record_check.proofs.check.check_record.Tie as tie
 
@@ -12,8 +13,14 @@ returns c =
 
 check-sized-requires : tie.Need-check-sized-requires
 check-sized-requires c κs =
-    let t = c .before .before .before .before in
-    (layout-passed (t .before .before .before .args .file .now) (t .check-layout .ensures) (c .before .before .enum-told .given .1), search needs)
+    let t = c .before .before .before .before .before in
+    (layout-passed (t .before .before .before .args .file .now) (t .check-layout .ensures) (c .before .before .before .enum-told .given .1), search needs)
+
+check-sized-requires-2 : tie.Need-check-sized-requires-2
+check-sized-requires-2 c κs =
+    let t = c .before .before .before .before .before in
+    let passed = layout-passed (t .before .before .before .args .file .now) (t .check-layout .ensures) (c .before .before .before .enum-told .given .1) in
+    (passed, at-most _ passed)
 
 pub check-record-spec : {M : Type 1} → statement M
 check-record-spec =
@@ -24,6 +31,11 @@ check-record-spec =
     returns
     (λ c. search needs)
     (λ c. search needs)
+    (λ c. search needs)
     check-sized-requires
+    (λ c. search needs)
+    (λ c. search needs)
+    (λ c. search needs)
+    check-sized-requires-2
     (λ c. search needs)
     (λ c. search needs))

@@ -3,7 +3,7 @@
 use native.Mathlib.Omega.{arith}
 use borrow.Author.Tests.{le-leb, lt-leb}
 use Rattle.steps.specs.Step.{step}
-use Rattle.rules.proofs.Shown.{shows-shown}
+use Rattle.hypotheses.proofs.Shown.{shows-shown}
 use Rattle.rules.proofs.Tests.{opened}
 use Rattle.rules.proofs.step.open.Statement.{statement}
 use Rattle.rules.proofs.step.open.Tie as tie

@@ -9,8 +9,8 @@ use mathlib.Core.Logic.{⊎-elim}
 use denote.Ref.{now}
 use lib.ListN.{length}
 use Rattle.table.specs.Tests.{entries}
+use Rattle.hypotheses.proofs.Slots.{few-added, restored}
 use Rattle.proof.specs.Walks.{AnswersGoal, AnswersPremise}
-use Rattle.proof.proofs.Slots.{few-added, restored}
 use Rattle.proof.proofs.Crossing.{truth-to-affirmation, affirmation-to-truth}
 use Rattle.proof.proofs.Walks.{Here, forward-done, at-end, adds, refused, closed, one, one-across, first-across, first-refused, two}
 use borrow.Fn.Kinds.{In}
@@ -24,9 +24,9 @@ use Rattle.proof.proofs.walk.Walk.+adding+affirmation+truth.Lts-affirma
 use Rattle.proof.proofs.walk.Walk.truth.Reads as truth
 use Rattle.proof.proofs.walk.Walk.truth.Kinds as truth-kinds
 use Rattle.proof.proofs.walk.Walk.+adding+affirmation+truth.Lts-truth as truth-lts
-use Rattle.proof.proofs.hypotheses.added_count.Reads as added-count-reads
-use Rattle.proof.proofs.hypotheses.hold_added.Reads as hold-added-reads
-use Rattle.proof.proofs.hypotheses.release_added.Reads as release-added-reads
+use Rattle.hypotheses.proofs.hypotheses.added_count.Reads as added-count-reads
+use Rattle.hypotheses.proofs.hypotheses.hold_added.Reads as hold-added-reads
+use Rattle.hypotheses.proofs.hypotheses.release_added.Reads as release-added-reads
 use Rattle.rules.proofs.step.open.Reads as open-reads
 use Rattle.proof.proofs.walk.Walk.at.Reads as at-reads
 use Rattle.proof.proofs.walk.Walk.back.Reads as back-reads
@@ -139,7 +139,7 @@ adding-restores t c =
     let joined = c .before .before .before .before .before in
     let held = joined .before .before .before in
     let start = held .before .before .before .before .before .before .before .before in
-    restored (now (start .args .slots)) (start .args .premise .added) (start .args .self .held) _ _ _ _
+    restored (now (start .args .slots)) (start .args .premise .added) _ _ _ _
     (held .hold-added .ensures .0) (held .hold-added .ensures .1) (adding-joined t joined .1) (c .before .before .before .release-added .ensures)
 
 adding-below-requires : (t : ℕ) → adding-lts.Need-below-requires (adding-claims t) (adding-at t) adding.Post
@@ -342,26 +342,26 @@ pub +adding+affirmation+truth-spec : {M : Type 1} → statement M
 +adding+affirmation+truth-spec =
     close μ-adding μ-affirmation μ-truth
     (λ t. adding-lts.spec (adding-claims t) (adding-at t) adding.Post
-    (λ c κs. search needs)
+    (λ c κs. tt)
     (adding-below-requires t)
-    (λ c κs. search needs)
+    (λ c κs. tt)
     (λ c. search needs)
     (adding-truth-requires t)
     (λ c. search needs)
     (adding-affirmation-requires t)
-    (λ c κs. search needs)
-    (λ c κs. search needs)
+    (λ c κs. tt)
+    (λ c κs. tt)
     (adding-same-length t)
     (adding-returns t))
     (λ t. affirmation-lts.spec (affirmation-claims t) (affirmation-at t) affirmation.Post
     (affirmation-returns t)
     (λ c. search needs)
     (λ c. search needs)
-    (λ c κs. search needs)
+    (λ c κs. tt)
     (λ c. search needs)
     (λ c. search needs)
     (λ c. search needs)
-    (λ c κs. search needs)
+    (λ c κs. tt)
     (λ c. search needs)
     (λ c. search needs)
     (λ c. search needs)
@@ -370,7 +370,7 @@ pub +adding+affirmation+truth-spec : {M : Type 1} → statement M
     (λ c. search needs)
     (λ c κs. search needs)
     (affirmation-truth-requires t)
-    (λ c κs. search needs)
+    (λ c κs. tt)
     (λ c. search needs)
     (λ c. search needs)
     (λ c. search needs)
@@ -379,7 +379,7 @@ pub +adding+affirmation+truth-spec : {M : Type 1} → statement M
     (λ c. search needs)
     (λ c κs. search needs)
     (affirmation-truth-requires-2 t)
-    (λ c κs. search needs)
+    (λ c κs. tt)
     (λ c. search needs)
     (affirmation-adding-requires-3 t)
     (λ c. search needs)
@@ -399,11 +399,11 @@ pub +adding+affirmation+truth-spec : {M : Type 1} → statement M
     (truth-returns t)
     (λ c. search needs)
     (λ c. search needs)
-    (λ c κs. search needs)
+    (λ c κs. tt)
     (λ c. search needs)
     (λ c. search needs)
     (λ c. search needs)
-    (λ c κs. search needs)
+    (λ c κs. tt)
     (λ c. search needs)
     (λ c. search needs)
     (λ c. search needs)
@@ -412,7 +412,7 @@ pub +adding+affirmation+truth-spec : {M : Type 1} → statement M
     (λ c. search needs)
     (λ c κs. search needs)
     (truth-affirmation-requires t)
-    (λ c κs. search needs)
+    (λ c κs. tt)
     (λ c. search needs)
     (λ c. search needs)
     (λ c κs. search needs)

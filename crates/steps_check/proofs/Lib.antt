@@ -1,0 +1,4 @@
+-- The laws behind the code.
+pub mod AllUsed
+pub mod RecordSteps
+pub mod ExchangeSteps
