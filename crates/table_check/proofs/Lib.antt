@@ -1,5 +1,5 @@
 -- The lemmas behind the code of tests 4 and 5.
 pub mod Bounds
 pub mod Scan
-pub mod Walk
-pub mod Buckets
+pub mod Trees
+pub mod Search

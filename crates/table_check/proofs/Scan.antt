@@ -3,7 +3,7 @@ use Prim.Native.Nat.{ℕ, _+_, _<_, min}
 use native.Mathlib.Omega.{arith}
 use mathlib.Core.Bool.{Bool, true, false, not}
 use mathlib.Core.List.{List}
-use mathlib.Core.Path.{_≡_, sym, _∙_}
+use mathlib.Core.Path.{_≡_, sym, ap, _∙_}
 use lib.ListN.{length, getD}
 use Rattle.table.specs.declared.place.Place.the-variants.{At, Nowhere}
 use Rattle.table.specs.First.{first, found}
@@ -11,6 +11,11 @@ use Rattle.table.specs.Entry.{entry}
 use Rattle.table.specs.Tests.{entries, entryAt, right, wrongEntry, same, repeatedEntry}
 use Rattle.table.proofs.First.{first-none-more, first-at}
 use Rattle.table.proofs.Entries.{length-entries, entry-at}
+
+-- Of two opposite answers, each is the opposite of the other.
+pub opposite : (a b : Bool) → b ≡ not a → a ≡ not b
+opposite true b e = sym (ap not e)
+opposite false b e = sym (ap not e)
 
 module _ (hs ss : List ℕ) where
   -- The entry of number i is wrong.
@@ -36,14 +41,16 @@ module _ (hs ss : List ℕ) where
   abbrev pub repeated : ℕ → Bool
   repeated i = found (first (same hs ss i) i)
 
-  -- Entry i is repeated and none before it is: 5 answers i.
-  pub repeated-at : (i : ℕ) (b : Bool) → i < length hs → first repeated i ≡ Nowhere → b ≡ repeated i → b ≡ true → repeatedEntry hs ss ≡ At i
+  -- Entry i is repeated, since it is not new, and none before it is: 5 answers i.
+  pub repeated-at :
+      (i : ℕ) (new : Bool) → i < length hs → first repeated i ≡ Nowhere → new ≡ not (repeated i) → not new ≡ true → repeatedEntry hs ss ≡ At i
   unfolding repeatedEntry
-  repeated-at i b in-heads none asked here = first-at repeated (length hs) i none (sym asked ∙ here) in-heads
+  repeated-at i new in-heads none asked here = first-at repeated (length hs) i none (opposite (repeated i) new asked ∙ here) in-heads
 
-  -- Entry i is not repeated, and none before it is.
-  pub repeated-none-more : (i : ℕ) (b : Bool) → first repeated i ≡ Nowhere → b ≡ repeated i → b ≡ false → first repeated (i + 1) ≡ Nowhere
-  repeated-none-more i b none asked here = first-none-more repeated i none (sym asked ∙ here)
+  -- Entry i is new, and none before it is repeated.
+  pub repeated-none-more :
+      (i : ℕ) (new : Bool) → first repeated i ≡ Nowhere → new ≡ not (repeated i) → not new ≡ false → first repeated (i + 1) ≡ Nowhere
+  repeated-none-more i new none asked here = first-none-more repeated i none (opposite (repeated i) new asked ∙ here)
 
   -- None is repeated: 5 finds no fault.
   pub repeated-nowhere : (i : ℕ) → i ≡ length hs → first repeated i ≡ Nowhere → repeatedEntry hs ss ≡ Nowhere
