@@ -40,8 +40,8 @@ fn large() -> Vec<Row> {
         of("many statements: exchange, lists 256 and 256", files::exchange, sizes(1024, 256, 6144), sizes(512, 128, 3072)),
         of("all together: record, 49,672 bytes", files::record, sizes(4096, 256, 16_384), sizes(2048, 128, 8192)),
         of("all together: exchange, 50,184 bytes", files::exchange, sizes(4096, 256, 16_384), sizes(2048, 128, 8192)),
-        of("crowded buckets: record, F 4,096", files::crowded_record, sizes(4096, 8, 24), sizes(2048, 8, 24)),
-        of("crowded buckets: exchange, F 4,096", files::crowded_exchange, sizes(4096, 8, 96), sizes(2048, 8, 96)),
+        of("crowded roots: record, F 4,096", files::crowded_record, sizes(4096, 8, 24), sizes(2048, 8, 24)),
+        of("crowded roots: exchange, F 4,096", files::crowded_exchange, sizes(4096, 8, 96), sizes(2048, 8, 96)),
     ]
 }
 

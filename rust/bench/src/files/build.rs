@@ -95,7 +95,7 @@ fn crowded(formulas: usize) -> (Table, Vec<u16>) {
     (table, base)
 }
 
-/// A record over a table that falls into few buckets.
+/// A record over a table that falls into few roots.
 pub fn crowded_record(sizes: Sizes) -> File {
     let (table, base) = crowded(sizes.formulas);
     record_over(&table, base, sizes, Random(3))
