@@ -1,4 +1,4 @@
--- What the private functions of the check answer: 4 to 7 over a file's arrays, and with 9 to 15 (steps_check/specs/ExchangeSteps.antt) all that follows
+-- What the private functions of the check answer: 4, 5 and 7 over a file's arrays, and with 9 to 15 (steps_check/specs/ExchangeSteps.antt) all that follows
 -- 1 to 3 (layout_check/specs/ExchangeLayout.antt). Together they are `exchangeAnswer`. Assumes nothing.
 use Prim.Native.Nat.{ℕ}
 use mathlib.Core.List.{List, [], _∷_}

@@ -1,5 +1,5 @@
 //! Many generated files, on which the proved checker (`wethrynda`) and the second checker (`second_checker`) have to agree: answer, number, place,
-//! signers, and every word of the lent list.
+//! signers; and every word of the proved one's lent list is looked at.
 //!
 //! - `random`, `table`, `steps`, `parts`: random numbers, a table of formulas, step words, a file's parts.
 //! - `derivations`, `records`, `exchanges`, `deep`, `largest`: right files, with every rule; `slips`: files that are right by a wrong reading.

@@ -87,9 +87,9 @@ fn find_all(files: u64, make: impl Fn(u64) -> Given) -> Vec<Option<Found>> {
 /// The fixed set finds each fault, and so do its seeded files alone, without the exhaustive pieces.
 #[test]
 fn the_fixed_set_finds_each_fault() {
-    assert!(FAULTS.len() >= 24);
+    assert_eq!(FAULTS.len(), 76);
     let fixed = Fixed::new();
-    // a faulty copy may panic, which finds it; the message would only be in the way
+    // a fault that is found by a panic is an error below; the message would only be in the way
     let hook = take_hook();
     set_hook(Box::new(|_| {}));
     let found = thread::scope(|scope| {
@@ -108,6 +108,7 @@ fn the_fixed_set_finds_each_fault() {
             never.push(fault.name);
             continue;
         };
+        assert!([first, seeded].iter().all(|found| found.answers[1] != "panic"), "{} is found by a panic", fault.name);
         let [right, wrong] = &first.answers;
         let (name, what) = (fault.name, fault.what);
         println!("{name:<32} {:>8}  {:>8}  {:<10} {right:<14} {wrong:<14} {what}", first.number, seeded.number, first.family);

@@ -1,5 +1,5 @@
 //! A plain fast checker of release records and exchange files, as one writes it for speed in safe Rust: words are read where they stand, a
-//! hypothesis is a mark at its formula's number, and no more memory is cleared than the file's sizes ask for. It makes all of 01's tests in 01's
+//! hypothesis is a mark at its formula's number, and little more memory is cleared than the file's sizes ask for. It makes all of 01's tests in 01's
 //! order and keeps nothing between calls. The proved checker is measured against it.
 #![forbid(unsafe_code)]
 mod limits;

@@ -1,6 +1,6 @@
 //! Files put together: a table, statements over it, and the proofs.
 
-use super::crowded::{fill_crowded, longest_chain};
+use super::crowded::{fill_crowded, most_at_one_root};
 use super::prover::{truth, Goal, Prover};
 use super::random::Random;
 use super::table::{Table, AND, IMPLIES, OR, SAYS};
@@ -91,7 +91,7 @@ pub fn exchange(sizes: Sizes) -> File {
 fn crowded(formulas: usize) -> (Table, Vec<u16>) {
     let (mut table, base) = Table::begin();
     fill_crowded(&mut table, formulas);
-    assert!(longest_chain(&table) > formulas / 2);
+    assert!(most_at_one_root(&table) > formulas / 2);
     (table, base)
 }
 

@@ -45,7 +45,7 @@ pub fn fill_crowded(table: &mut Table, formulas: usize) {
 }
 
 /// How many entries share the root that has most.
-pub fn longest_chain(table: &Table) -> usize {
+pub fn most_at_one_root(table: &Table) -> usize {
     let mut counts = vec![0; ROOTS];
     table.heads.iter().zip(&table.seconds).for_each(|(&head, &second)| counts[(head as usize + second as usize * FACTOR) % ROOTS] += 1);
     counts.into_iter().max().expect("there are roots")
