@@ -1,6 +1,8 @@
-//! Plants the faults: for each `faults/NAME.edit` a copy of the second checker with that edit, as a module that `tests/faults.rs` compiles.
+//! Plants the faults: for each `faults/NAME.edit` a copy of the second checker with that edit, as a
+//! module that `tests/faults.rs` compiles.
 //!
-//! An edit is a sentence that says which fault it is, and one or more of: `file:`, `old:` (found exactly once there), `new:`.
+//! An edit is a sentence that says which fault it is, and one or more of: `file:`, `old:` (found
+//! exactly once there), `new:`.
 use std::fmt::Write;
 use std::fs;
 use std::path::{Path, PathBuf};
@@ -19,8 +21,8 @@ struct Edit {
 }
 
 fn main() {
-    let package = PathBuf::from(std::env::var("CARGO_MANIFEST_DIR").expect("cargo says where the package stands"));
-    let out = PathBuf::from(std::env::var("OUT_DIR").expect("cargo says where to put it")).join("faults");
+    let from_cargo = |name: &str| PathBuf::from(std::env::var(name).expect("cargo sets it"));
+    let (package, out) = (from_cargo("CARGO_MANIFEST_DIR"), from_cargo("OUT_DIR").join("faults"));
     let second = package.join("../second/src");
     println!("cargo:rerun-if-changed=build.rs");
     println!("cargo:rerun-if-changed=faults");
@@ -33,15 +35,21 @@ fn main() {
         let fault = read(&path);
         plant(&fault, &second, &out.join(&fault.name));
         let Fault { name, what, .. } = &fault;
-        writeln!(modules, "#[allow(dead_code, unused)]\n#[path = {:?}]\nmod {name};", out.join(name).join("lib.rs")).expect("text");
+        let path = out.join(name).join("lib.rs");
+        writeln!(modules, "#[allow(dead_code, unused)]\n#[path = {path:?}]\nmod {name};")
+            .expect("text");
         writeln!(list, "    fault!({name}, {what:?}),").expect("text");
     }
-    fs::write(out.join("faults.rs"), format!("{modules}\nconst FAULTS: &[Fault] = &[\n{list}];\n")).expect("the list of faults is written");
+    fs::write(out.join("faults.rs"), format!("{modules}\nconst FAULTS: &[Fault] = &[\n{list}];\n"))
+        .expect("the list of faults is written");
 }
 
 /// The files of a folder, by name.
 fn files(folder: &Path) -> Vec<PathBuf> {
-    let mut files: Vec<PathBuf> = fs::read_dir(folder).expect("a folder").map(|entry| entry.expect("a file").path()).collect();
+    let mut files: Vec<PathBuf> = fs::read_dir(folder)
+        .expect("a folder")
+        .map(|entry| entry.expect("a file").path())
+        .collect();
     files.sort();
     files
 }
@@ -49,11 +57,16 @@ fn files(folder: &Path) -> Vec<PathBuf> {
 fn read(path: &Path) -> Fault {
     let text = fs::read_to_string(path).expect("an edit is text");
     let name = path.file_stem().expect("an edit has a name").to_string_lossy().into_owned();
-    let (what, rest) = text.strip_prefix("# ").and_then(|text| text.split_once('\n')).unwrap_or_else(|| panic!("{name}: no sentence"));
+    let (what, rest) = text
+        .strip_prefix("# ")
+        .and_then(|text| text.split_once('\n'))
+        .unwrap_or_else(|| panic!("{name}: no sentence"));
     let mut edits: Vec<Edit> = vec![];
     let mut in_new = false;
     for line in rest.lines() {
-        let after = |key: &str| line.strip_prefix(key).map(|text| text.strip_prefix(' ').unwrap_or(text).to_string());
+        let after = |key: &str| {
+            line.strip_prefix(key).map(|text| text.strip_prefix(' ').unwrap_or(text).to_string())
+        };
         if let Some(file) = after("file:") {
             edits.push(Edit { file, ..Edit::default() });
         } else {
@@ -82,12 +95,21 @@ fn plant(fault: &Fault, second: &Path, to: &Path) {
         let mut text = fs::read_to_string(&path).expect("a source is text");
         for edit in fault.edits.iter().filter(|edit| file == edit.file.as_str()) {
             let count = text.matches(&edit.old).count();
-            assert_eq!(count, 1, "faults/{}.edit: `old` stands {count} times in {}:\n{}", fault.name, edit.file, edit.old);
+            assert_eq!(
+                count, 1,
+                "faults/{}.edit: `old` stands {count} times in {}:\n{}",
+                fault.name, edit.file, edit.old
+            );
             text = text.replacen(&edit.old, &edit.new, 1);
         }
         fs::write(to.join(file), text).expect("a copy is written");
     }
     for edit in &fault.edits {
-        assert!(second.join(&edit.file).exists(), "faults/{}.edit: no file {}", fault.name, edit.file);
+        assert!(
+            second.join(&edit.file).exists(),
+            "faults/{}.edit: no file {}",
+            fault.name,
+            edit.file
+        );
     }
 }

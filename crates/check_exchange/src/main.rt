@@ -1,11 +1,11 @@
-// "one reads an exchange file .. prints one line." (01) All but reading and writing is `answer_exchange_line`'s.
-use answers::answer_line::answer_exchange_line;
-use answers::answer_line::line_buffer;
+// "one reads an exchange file .. prints one line." (01) All but reading and writing is `exchange_line`'s.
+use exchange_check::layout::file_buffer;
 use input::read_input;
-use layout_check::exchange_limits::file_buffer;
 use libc::STDERR_FILENO;
 use libc::STDIN_FILENO;
 use libc::STDOUT_FILENO;
+use report::exchange_line;
+use report::line_buffer;
 
 fn main() {
     let mut file = file_buffer();
@@ -20,7 +20,7 @@ fn main() {
     let n = input.count;
 
     let mut line = line_buffer();
-    let length = answer_exchange_line(&file[..n], &mut line);
+    let length = exchange_line(&file[..n], &mut line);
     if length == 0 || !io::write_all(STDOUT_FILENO, &line[..length]) {
         io::write_all(
             STDERR_FILENO,

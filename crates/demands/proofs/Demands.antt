@@ -1,6 +1,6 @@
 -- The demands are met (specs/Demands.antt). Assumes nothing.
 use Rattle.record.proofs.Granted.{granted-exactly}
-use Rattle.record.proofs.Refused.{refused-exactly}
+use Rattle.record.proofs.Reasons.{refused-exactly}
 use Rattle.exchange.proofs.Force.{force-by-statements, goal-kept}
 use Rattle.exchange.proofs.Equal.{equal-exactly, equal-only-in-force}
 use Rattle.demands.specs.Demands.{Demands}

@@ -4,11 +4,11 @@ use Prim.Native.Nat.{ℕ}
 use mathlib.Core.Path.{refl, subst}
 use mathlib.Core.Logic.{Iff·symm, _⊎_, inl, inr, ⊎-elim}
 use mathlib.Core.List.{List, [], _∷_, _++_, List·Memᴰ·head, List·Memᴰ·cases-cons, List·Memᴰ·not-nil}
+use Rattle.basics.specs.Membership.{_∈_, _⊆_}
+use Rattle.basics.proofs.Membership.{⊆-left, ⊆-right}
 use Rattle.logic.specs.Proposition.{Proposition, atom, false, _implies_, _and_, _or_, _says_}
-use Rattle.logic.specs.Hypotheses.{_∈_, _⊆_}
 use Rattle.logic.specs.Misreadings.{SignedBy, Anybody}
 use Rattle.logic.specs.Figure1.{HasProof}
-use Rattle.logic.proofs.Hypotheses.{⊆-left, ⊆-right}
 use Rattle.logic.proofs.Figure1.{figure1}
 use Rattle.record.proofs.Granted.{granted-exactly}
 use Rattle.exchange.specs.Layout.{firstStatements, secondStatements}

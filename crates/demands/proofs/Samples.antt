@@ -1,15 +1,15 @@
 -- The samples marked m hold, by computation (specs/Samples.antt). Assumes nothing.
 use mathlib.Core.Path.{refl}
-use Rattle.table.specs.Entry.{entry}
-use Rattle.table.specs.First.{first}
-use Rattle.table.specs.Tests.{entries, wrongEntry, repeatedEntry}
-use Rattle.steps.specs.Obligation.{holds}
-use Rattle.steps.specs.Step.{opens, step}
-use Rattle.steps.specs.Run.{walk, run}
+use Rattle.basics.specs.First.{first}
+use Rattle.basics.specs.Membership.{holds}
+use Rattle.basics.specs.Refusals.{firstRefusal}
 use Rattle.text.specs.Ascii.{ascii}
 use Rattle.text.specs.Decimal.{digits, decimal}
 use Rattle.file.specs.Words.{fileWords, fileOf}
-use Rattle.file.specs.Refusals.{firstRefusal}
+use Rattle.table.specs.Entry.{entry}
+use Rattle.table.specs.Tests.{entries, wrongEntry, repeatedEntry}
+use Rattle.steps.specs.Step.{opens, step}
+use Rattle.steps.specs.Run.{walk, run}
 use Rattle.signers.specs.Signers.{joinedAll, signers}
 use Rattle.record.specs.Answer.{recordAnswer}
 use Rattle.exchange.specs.Answer.{exchangeAnswer}

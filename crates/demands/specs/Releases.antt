@@ -5,15 +5,15 @@
 use Prim.Native.Nat.{ℕ}
 use mathlib.Core.Path.{_≡_}
 use mathlib.Core.List.{List, [], _∷_, _++_}
+use Rattle.basics.specs.Membership.{_∈_, _⊆_}
 use Rattle.logic.specs.Proposition.{Proposition, atom, false, _implies_, _and_, _or_, _says_}
-use Rattle.logic.specs.Hypotheses.{_∈_, _⊆_}
 use Rattle.logic.specs.Misreadings.{SignedBy, Anybody}
 use Rattle.logic.specs.Figure1.{HasProof, EqualInForce}
 use Rattle.table.specs.Spelled.{spell, spellAll}
-use Rattle.record.specs.declared.verdict.Verdict.the-variants.{Granted}
+use Rattle.record.specs.declared.verdict.RecordVerdict.the-variants.{Granted}
 use Rattle.record.specs.Layout as Record
 use Rattle.record.specs.Answer.{recordAnswer}
-use Rattle.exchange.specs.declared.verdict.Verdict.the-variants.{Equal}
+use Rattle.exchange.specs.declared.verdict.ExchangeVerdict.the-variants.{Equal}
 use Rattle.exchange.specs.Layout.{firstStatements, secondStatements}
 use Rattle.exchange.specs.Answer.{exchangeAnswer}
 

@@ -5,32 +5,32 @@ use mathlib.Core.Path.{_≡_, refl, sym, ap, subst, _∙_}
 use mathlib.Core.Logic.{_↔_, ⊎-elim}
 use mathlib.Core.List.{List, [], _∷_, _++_, append-nil, append-assoc, List·Memᴰ·append-cases, Memᴰ·of-map}
 use lib.ListN.{length}
-use Rattle.logic.specs.Hypotheses.{_∈_}
-use Rattle.table.specs.declared.check.Tested.the-variants.{Passed}
+use Rattle.basics.specs.Membership.{_∈_}
+use Rattle.basics.specs.declared.tested.Tested.the-variants.{Passed}
 use Rattle.table.specs.declared.entry.Entry.{Entry}
 use Rattle.table.specs.Number.{number}
 use Rattle.table.specs.Tests.{tableTests}
 use Rattle.table.proofs.Answers.{passed}
 use Rattle.table.proofs.Ordered.{no-fault-ordered}
-use Rattle.steps.specs.declared.verdict.Verdict.the-variants.{Closed}
-use Rattle.steps.specs.Obligation.{Obligation, due, dues}
+use Rattle.table.proofs.Unlike.{not-repeated}
+use Rattle.steps.specs.declared.verdict.WalkVerdict.the-variants.{Closed}
+use Rattle.steps.specs.Obligation.{Obligation, obligation, obligations}
 use Rattle.steps.specs.Words.{words}
 use Rattle.steps.specs.Carried.{InTable}
 use Rattle.steps.specs.Figure1.{Carried}
 use Rattle.steps.proofs.Figure1.{runs-are-derivations}
-use Rattle.file.proofs.Unlike.{not-repeated}
 use Rattle.exchange.specs.Layout.{formulas, heads, seconds, firstList, secondList, steps, table}
-use Rattle.exchange.specs.Answer.{obligations, stepVerdict}
+use Rattle.exchange.specs.Answer.{obligationsOf, stepVerdict}
 use Rattle.exchange.specs.Proofs.{Keeps, ProofOfEach, wordsOfEach, CarriesAll}
 use Rattle.exchange.proofs.Lengths.{length-table, sized-table}
 
 module _ (es : List Entry) (statements : List ℕ) where
-  -- The words begin with those of a proof for each position, and the rest carries what is due after them.
+  -- The words begin with those of a proof for each position, and the rest carries what is owed after them.
   abbrev Begins : List ℕ → List Obligation → List ℕ → Type 0
   Begins goals os ws =
       (proofs : ProofOfEach es statements goals) × ((rest : List ℕ) × ((ws ≡ wordsOfEach es statements goals proofs ++ rest) × Carried es os rest))
 
-  to-each : (goals : List ℕ) (os : List Obligation) (ws : List ℕ) → Carried es (dues statements goals ++ os) ws → Begins goals os ws
+  to-each : (goals : List ℕ) (os : List Obligation) (ws : List ℕ) → Carried es (obligations statements goals ++ os) ws → Begins goals os ws
   to-each [] os ws carried = (tt, (ws, (refl, carried)))
   to-each (n ∷ ns) os ws (later, (proved, carried)) =
       let (proofs, (rest, (e, follows))) = to-each ns os later carried in
@@ -39,7 +39,7 @@ module _ (es : List Entry) (statements : List ℕ) where
         (rest, (proved .begins ∙ ap (λ (z : List ℕ). first ++ z) e ∙ sym (append-assoc first (wordsOfEach es statements ns proofs) rest), follows)),
       )
 
-  from-each : (goals : List ℕ) (os : List Obligation) (ws : List ℕ) → Begins goals os ws → Carried es (dues statements goals ++ os) ws
+  from-each : (goals : List ℕ) (os : List Obligation) (ws : List ℕ) → Begins goals os ws → Carried es (obligations statements goals ++ os) ws
   from-each [] os ws (proofs, (rest, (e, follows))) = subst (Carried es os) (sym e) follows
   from-each (n ∷ ns) os ws ((p, proofs), (rest, (e, follows))) =
       let first = words (number es) (p .derivation) in
@@ -53,25 +53,25 @@ module _ (es : List Entry) (statements : List ℕ) where
 
 module _ (file : List ℕ) where
   -- What is carried is a proof for each position of both lists, and nothing after them.
-  carries-all : Carried (table file) (obligations file) (steps file) ↔ CarriesAll file
+  carries-all : Carried (table file) (obligationsOf file) (steps file) ↔ CarriesAll file
   carries-all =
       let es = table file in
-      let some = firstList file in
-      let others = secondList file in
-      let back = dues others some in (
+      let first = firstList file in
+      let second = secondList file in
+      let back = obligations second first in (
         λ carried.
-            let (forth-proofs, (rest, (e, follows))) = to-each es some others back (steps file) carried in
-            let (back-proofs, (none, (f, end))) = to-each es others some [] rest (subst (λ os. Carried es os rest) (sym (append-nil back)) follows) in
-            let last : rest ≡ wordsOfEach es others some back-proofs = f ∙ ap (λ (z : List ℕ). wordsOfEach es others some back-proofs ++ z) end ∙ append-nil _ in
+            let (forth-proofs, (rest, (e, follows))) = to-each es first second back (steps file) carried in
+            let (back-proofs, (none, (f, end))) = to-each es second first [] rest (subst (λ os. Carried es os rest) (sym (append-nil back)) follows) in
+            let last : rest ≡ wordsOfEach es second first back-proofs = f ∙ ap (λ (z : List ℕ). wordsOfEach es second first back-proofs ++ z) end ∙ append-nil _ in
             record {
               second-from-first = forth-proofs;
               first-from-second = back-proofs;
-              words = e ∙ ap (λ (z : List ℕ). wordsOfEach es some others forth-proofs ++ z) last;
+              words = e ∙ ap (λ (z : List ℕ). wordsOfEach es first second forth-proofs ++ z) last;
             },
         λ c.
-            let rest = wordsOfEach es others some (c .first-from-second) in
-            let follows = from-each es others some [] rest (c .first-from-second, ([], (sym (append-nil rest), refl))) in
-            from-each es some others back (steps file) (c .second-from-first, (rest, (c .words, subst (λ os. Carried es os rest) (append-nil back) follows))),
+            let rest = wordsOfEach es second first (c .first-from-second) in
+            let follows = from-each es second first [] rest (c .first-from-second, ([], (sym (append-nil rest), refl))) in
+            from-each es first second back (steps file) (c .second-from-first, (rest, (c .words, subst (λ os. Carried es os rest) (append-nil back) follows))),
       )
 
   module _ (keeps : Keeps file) where
@@ -86,21 +86,21 @@ module _ (file : List ℕ) where
     below : (n : ℕ) → n < formulas file → n < length (table file)
     below n less = let sized = length-table file (keeps .sized) in omega arith
 
-    due-in-table :
-        (some others : List ℕ) → ((n : ℕ) → n ∈ some → n < formulas file) → ((n : ℕ) → n ∈ others → n < formulas file)
-        → (o : Obligation) → o ∈ dues some others → InTable (table file) o
-    due-in-table some others some-in others-in o m =
-        let (n, stands, is) = Memᴰ·of-map (due some) others m in
-        subst (InTable (table file)) is record { hypotheses-in = λ k held. below k (some-in k held); goal-in = below n (others-in n stands) }
+    in-table-each :
+        (first second : List ℕ) → ((n : ℕ) → n ∈ first → n < formulas file) → ((n : ℕ) → n ∈ second → n < formulas file)
+        → (o : Obligation) → o ∈ obligations first second → InTable (table file) o
+    in-table-each first second first-in second-in o m =
+        let (n, stands, is) = Memᴰ·of-map (obligation first) second m in
+        subst (InTable (table file)) is record { hypotheses-in = λ k held. below k (first-in k held); goal-in = below n (second-in n stands) }
 
-    -- and so are all numbers of what is due.
-    in-table : (o : Obligation) → o ∈ obligations file → InTable (table file) o
+    -- and so are all numbers of what is owed.
+    in-table : (o : Obligation) → o ∈ obligationsOf file → InTable (table file) o
     in-table o m =
-        ⊎-elim (due-in-table (firstList file) (secondList file) (keeps .first-in) (keeps .second-in) o)
-        (due-in-table (secondList file) (firstList file) (keeps .second-in) (keeps .first-in) o)
-        (List·Memᴰ·append-cases (dues (firstList file) (secondList file)) m)
+        ⊎-elim (in-table-each (firstList file) (secondList file) (keeps .first-in) (keeps .second-in) o)
+        (in-table-each (secondList file) (firstList file) (keeps .second-in) (keeps .first-in) o)
+        (List·Memᴰ·append-cases (obligations (firstList file) (secondList file)) m)
 
     pub closes-on-proofs : stepVerdict file ≡ Closed (length (steps file)) ↔ CarriesAll file
     closes-on-proofs =
-        let (to, from) = runs-are-derivations (heads file) (seconds file) table-passes (obligations file) in-table (steps file) in
+        let (to, from) = runs-are-derivations (heads file) (seconds file) table-passes (obligationsOf file) in-table (steps file) in
         (λ e. carries-all .0 (to e), λ c. from (carries-all .1 c))

@@ -5,14 +5,14 @@ use mathlib.Core.Path.{ap, sym, subst, _∙_}
 use mathlib.Core.Logic.{⊎-elim}
 use mathlib.Core.List.{List, [], _∷_, List·Memᴰ·cases-cons, List·Memᴰ·not-nil}
 use lib.ListN.{length}
+use Rattle.basics.proofs.Refusals.{passed-by-all}
 use Rattle.logic.specs.Figure1.{HasProof}
 use Rattle.table.specs.declared.entry.Entry.{Entry}
 use Rattle.table.specs.Spelled.{spell, spellAll}
-use Rattle.steps.specs.declared.verdict.Verdict.the-variants.{Closed}
+use Rattle.steps.specs.declared.verdict.WalkVerdict.the-variants.{Closed}
 use Rattle.steps.proofs.Figure1.{closed-uses-all}
-use Rattle.file.proofs.Refusals.{passed-by-all}
 use Rattle.exchange.specs.Layout.{firstList, secondList, steps, table}
-use Rattle.exchange.specs.Answer.{obligations, tests}
+use Rattle.exchange.specs.Answer.{obligationsOf, tests}
 use Rattle.exchange.specs.Proofs.{ProofOfEach}
 use Rattle.exchange.specs.Force.{EachHasProof}
 use Rattle.exchange.specs.Promises.{EqualExactly, EqualOnlyInForce}
@@ -25,12 +25,11 @@ pub equal-exactly : EqualExactly
 equal-exactly file =
     let (to, from) = answer-equal file in (
       λ e.
-          let (none, (q, closes)) = to e in
-          let keeps = none-applies file .0 (passed-by-all (tests file) .0 none) in
-          let all = closed-uses-all (table file) (obligations file) (steps file) q closes in
+          let (keeps, (q, closes)) = none-applies file .0 (passed-by-all (tests file) .0 (to e)) in
+          let all = closed-uses-all (table file) (obligationsOf file) (steps file) q closes in
           (keeps, closes-on-proofs file keeps .0 (closes ∙ ap Closed all)),
       λ (keeps, carries).
-          from (passed-by-all (tests file) .1 (none-applies file .1 keeps), (length (steps file), closes-on-proofs file keeps .1 carries)),
+          from (passed-by-all (tests file) .1 (none-applies file .1 (keeps, (length (steps file), closes-on-proofs file keeps .1 carries)))),
     )
 
 -- A proof within the limits for every position is a proof of any size for each statement.

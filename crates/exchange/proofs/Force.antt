@@ -2,8 +2,8 @@
 use Prim.Native.Nat.{ℕ}
 use mathlib.Core.Path.{subst}
 use mathlib.Core.List.{List, _++_, map-append, Memᴰ·map, Memᴰ·of-map}
+use Rattle.basics.specs.Membership.{_∈_, _⊆_}
 use Rattle.logic.specs.Figure1.{HasProof}
-use Rattle.logic.specs.Hypotheses.{_∈_, _⊆_}
 use Rattle.logic.specs.Figure1 as Logic
 use Rattle.logic.specs.Force as Any
 use Rattle.logic.proofs.Figure1.{figure1}
@@ -13,24 +13,24 @@ use Rattle.exchange.specs.Force.{EachHasProof, ForceByStatements, GoalKe
 
 module _ (es : List Entry) where
   -- A proof for each number is one for each proposition that the list spells,
-  pub each-spelled : (some others : List ℕ) → EachHasProof es some others → Any.EachHasProof Logic.Same (spellAll es some) (spellAll es others)
-  each-spelled some others proofs A m =
-      let (n, stands, is) = Memᴰ·of-map (spell es) some m in subst (HasProof (spellAll es others)) is (proofs n stands)
+  pub each-spelled : (first second : List ℕ) → EachHasProof es first second → Any.EachHasProof Logic.Same (spellAll es first) (spellAll es second)
+  each-spelled first second proofs A m =
+      let (n, stands, is) = Memᴰ·of-map (spell es) first m in subst (HasProof (spellAll es second)) is (proofs n stands)
 
   -- and the other way round.
-  each-number : (some others : List ℕ) → Any.EachHasProof Logic.Same (spellAll es some) (spellAll es others) → EachHasProof es some others
-  each-number some others proofs n m = proofs (spell es n) (Memᴰ·map (spell es) m)
+  each-number : (first second : List ℕ) → Any.EachHasProof Logic.Same (spellAll es first) (spellAll es second) → EachHasProof es first second
+  each-number first second proofs n m = proofs (spell es n) (Memᴰ·map (spell es) m)
 
   -- Numbers among others spell propositions among theirs.
-  spelled-among : (some others : List ℕ) → some ⊆ others → spellAll es some ⊆ spellAll es others
-  spelled-among some others among A m =
-      let (n, stands, is) = Memᴰ·of-map (spell es) some m in subst (λ B. B ∈ spellAll es others) is (Memᴰ·map (spell es) (among n stands))
+  spelled-among : (first second : List ℕ) → first ⊆ second → spellAll es first ⊆ spellAll es second
+  spelled-among first second among A m =
+      let (n, stands, is) = Memᴰ·of-map (spell es) first m in subst (λ B. B ∈ spellAll es second) is (Memᴰ·map (spell es) (among n stands))
 
 pub force-by-statements : ForceByStatements
-force-by-statements es some others =
-    let (to, from) = figure1 .force-by-statements (spellAll es some) (spellAll es others) in (
-      λ f. let (there, back) = to f in (each-number es some others there, each-number es others some back),
-      λ (there, back). from (each-spelled es some others there, each-spelled es others some back),
+force-by-statements es first second =
+    let (to, from) = figure1 .force-by-statements (spellAll es first) (spellAll es second) in (
+      λ f. let (there, back) = to f in (each-number es first second there, each-number es second first back),
+      λ (there, back). from (each-spelled es first second there, each-spelled es second first back),
     )
 
 pub goal-kept : GoalKept

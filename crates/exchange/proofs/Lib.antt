@@ -1,4 +1,5 @@
 -- The theorems whose statements are in specs/, and the lemmas behind them.
+pub mod LayoutIs
 pub mod Lengths
 pub mod Keeps
 pub mod Answered

@@ -1,13 +1,13 @@
 -- The samples hold, by computation. Assumes nothing.
 use mathlib.Core.Path.{refl}
+use Rattle.basics.specs.First.{first}
+use Rattle.basics.specs.Membership.{holds}
+use Rattle.basics.specs.Refusals.{firstRefusal}
+use Rattle.file.specs.Words.{fileWords, fileOf}
 use Rattle.table.specs.Entry.{entry}
-use Rattle.table.specs.First.{first}
 use Rattle.table.specs.Tests.{entries, wrongEntry, repeatedEntry}
-use Rattle.steps.specs.Obligation.{holds}
 use Rattle.steps.specs.Step.{opens, step}
 use Rattle.steps.specs.Run.{walk, run}
-use Rattle.file.specs.Words.{fileWords, fileOf}
-use Rattle.file.specs.Refusals.{firstRefusal}
 use Rattle.exchange.specs.Answer.{exchangeAnswer}
 use Rattle.exchange.specs.Samples.{Samples, Order, Directions, Depths}
 

@@ -1,55 +1,56 @@
 -- How large a refusal can be (specs/Promises.antt, `AnswersSmall`). Assumes nothing.
-use Prim.Native.Nat.{ℕ, _+_, _*_, _<_}
+use Prim.Native.Nat.{ℕ, _<_}
 use native.Mathlib.Omega.{arith}
 use mathlib.Core.Path.{_≡_, refl}
+use mathlib.Core.Logic.{Iff·trans}
 use mathlib.Core.List.{List}
 use lib.ListN.{length-append}
-use Rattle.file.specs.Refusals.{FirstReason}
-use Rattle.file.proofs.Asked.{settled}
-use Rattle.file.proofs.Parts.{part-at-most}
-use Rattle.exchange.specs.declared.verdict.Verdict.{Verdict}
-use Rattle.exchange.specs.declared.verdict.Verdict.the-variants.{Equal, Refused}
-use Rattle.exchange.specs.Layout.{formulas, firstCount, secondCount, stepCount, firstList, secondList}
+use Rattle.basics.specs.Order.{FirstReason, checkingOrder}
+use Rattle.basics.proofs.Asked.{settled}
+use Rattle.basics.proofs.Order.{before-is-lower}
+use Rattle.file.specs.Reasons.{size-outside}
+use Rattle.file.proofs.LayoutLaws as Any
+use Rattle.file.proofs.LayoutLaws.{part-most}
+use Rattle.file.proofs.Reasons.{layout-small}
+use Rattle.table.proofs.Reasons.{entry-small}
+use Rattle.exchange.specs.declared.verdict.ExchangeVerdict.{ExchangeVerdict}
+use Rattle.exchange.specs.declared.verdict.ExchangeVerdict.the-variants.{Equal, Refused}
+use Rattle.exchange.specs.Layout.{exchangeLayout, heads, seconds, firstList, secondList}
 use Rattle.exchange.specs.Answer.{exchangeAnswer}
 use Rattle.exchange.specs.Proofs.{InRange}
-use Rattle.exchange.specs.Reasons.{Reason, fewer-than-8-bytes, size-outside, other-length, wrong-entry, repeated-entry, statement-outside, stops}
+use Rattle.exchange.specs.Reasons.{Reason, layout-broken, entry-wrong, statement-outside, stops}
 use Rattle.exchange.specs.Promises.{Small, AnswersSmall}
-use Rattle.exchange.proofs.Lengths.{table-at-most}
-use Rattle.exchange.proofs.Keeps.{in-range}
-use Rattle.exchange.proofs.Reasons.{walked, step-number, refused-exactly}
+use Rattle.exchange.proofs.LayoutIs.{in-range}
+use Rattle.exchange.proofs.Reasons.{stop-small, reason-in, refused-exactly}
 
 module _ (file : List ℕ) where
   -- A reason after 2 is given of a file whose sizes are in range,
-  ranges : (number p : ℕ) → FirstReason (Reason file) number p → 2 < number → InRange file
-  ranges number p r l = settled _ (in-range file) (λ outside. r .none-before 2 0 l (size-outside refl refl outside))
+  ranges : (number p : ℕ) → FirstReason checkingOrder (Reason file) number p → 2 < number → InRange file
+  ranges number p r l =
+      let two-before = before-is-lower number 2 (reason-in file number p (r .applies)) .1 (omega arith, l) in
+      settled _ (Iff·trans (Any.in-range exchangeLayout file) (in-range file)) (λ outside. r .none-before 2 0 two-before (layout-broken (size-outside refl refl outside)))
 
   -- and a place that isn't 0 is within one of its parts.
   reason-small : (number p : ℕ) → (2 < number → InRange file) → Reason file number p → Small (Refused number p)
-  reason-small number p range (fewer-than-8-bytes n z l) = (omega arith, omega arith, omega arith)
-  reason-small number p range (size-outside n z outside) = (omega arith, omega arith, omega arith)
-  reason-small number p range (other-length n z differs) = (omega arith, omega arith, omega arith)
-  reason-small number p range (wrong-entry n is) =
-      let l = is .within in
+  reason-small number p range (layout-broken r) = let (least, most, z) = layout-small r in (omega arith, omega arith, omega arith)
+  reason-small number p range (entry-wrong r) =
+      let (least, most, l) = entry-small (heads file) (seconds file) number p r in
       let few = range (omega arith) .few-formulas in
-      (omega arith, omega arith, omega (arith, table-at-most file))
-  reason-small number p range (repeated-entry n is) =
-      let l = is .within in
-      let few = range (omega arith) .few-formulas in
-      (omega arith, omega arith, omega (arith, part-at-most file 4 (formulas file)))
+      (omega arith, omega arith, omega (arith, part-most exchangeLayout file 0))
   reason-small number p range (statement-outside n is) =
       let l = is .within in
       let sizes = range (omega arith) in
       let few-first = sizes .few-first in
       let few-second = sizes .few-second in
-      let some = part-at-most file (4 + 2 * formulas file) (firstCount file) in
-      let others = part-at-most file (4 + 2 * formulas file + firstCount file) (secondCount file) in
+      let first = part-most exchangeLayout file 2 in
+      let second = part-most exchangeLayout file 3 in
       (omega arith, omega arith, omega (arith, length-append (firstList file) (secondList file)))
   reason-small number p range (stops s) =
-      let (above, below, within) = step-number file number p (walked file number p .1 s) in
+      let (above, below, within) = stop-small file number p s in
       let few = range (omega arith) .few-steps in
-      (omega arith, below, omega (arith, part-at-most file (4 + 2 * formulas file + firstCount file + secondCount file) (stepCount file)))
+      (omega arith, below, omega (arith, part-most exchangeLayout file 4))
 
-  small : (v : Verdict) → exchangeAnswer file ≡ v → Small v
+  small : (v : ExchangeVerdict) → exchangeAnswer file ≡ v → Small v
   small Equal e = tt
   small (Refused number p) e =
       let r = refused-exactly file number p .0 e in

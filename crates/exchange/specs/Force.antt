@@ -5,7 +5,7 @@
 use Prim.Native.Nat.{ℕ}
 use mathlib.Core.Logic.{_↔_}
 use mathlib.Core.List.{List, _++_}
-use Rattle.logic.specs.Hypotheses.{_∈_, _⊆_}
+use Rattle.basics.specs.Membership.{_∈_, _⊆_}
 use Rattle.logic.specs.Figure1 as Logic
 use Rattle.logic.specs.Figure1.{HasProof}
 use Rattle.table.specs.declared.entry.Entry.{Entry}
@@ -14,17 +14,17 @@ use Rattle.table.specs.Spelled.{spell, spellAll}
 -- "Equal in force means that every formula, in the table or not, with a proof of any size from one list has a proof of any size from the
 -- other." (demand 3) Every proposition counts: see logic/specs/Force.antt.
 abbrev pub EqualInForce : List Entry → List ℕ → List ℕ → Type 0
-EqualInForce es some others = Logic.EqualInForce (spellAll es some) (spellAll es others)
+EqualInForce es first second = Logic.EqualInForce (spellAll es first) (spellAll es second)
 
 -- each statement of the first list has a proof, of any size, from the second
 abbrev pub EachHasProof : List Entry → List ℕ → List ℕ → Type 0
-EachHasProof es some others = (n : ℕ) → n ∈ some → HasProof (spellAll es others) (spell es n)
+EachHasProof es first second = (n : ℕ) → n ∈ first → HasProof (spellAll es second) (spell es n)
 
 -- "Any two lists of statements over one table, of whatever length, are equal in force exactly when each statement of either list has a proof,
 -- of any size, from the other." (demand 3)
 abbrev pub ForceByStatements : Type 0
 ForceByStatements =
-    (es : List Entry) (some others : List ℕ) → EqualInForce es some others ↔ (EachHasProof es some others × EachHasProof es others some)
+    (es : List Entry) (first second : List ℕ) → EqualInForce es first second ↔ (EachHasProof es first second × EachHasProof es second first)
 
 -- "The goal of every old release must then keep a proof, of any size, from it and the same signed papers." (demand 3) A release has statements
 -- among the old orders and the signed papers, in any order and any number.

@@ -2,13 +2,23 @@
 -- 2 × (4 + 2F + S1 + S2 + N) bytes." (01, "The exchange file") Each is read as far as a file goes, so that it is something for every file.
 -- Assumes nothing.
 use Prim.Native.Nat.{ℕ, _+_, _*_}
-use mathlib.Core.List.{List}
+use mathlib.Core.Path.{_≡_}
+use mathlib.Core.List.{List, [], _∷_}
+use Rattle.basics.specs.Limits.{mostFormulas, mostStatements, mostSteps}
+use Rattle.file.specs.Words.{wordAt, part}
+use Rattle.file.specs.Layout as Any
+use Rattle.file.specs.Layout.{Layout, range, partOf}
 use Rattle.logic.specs.Proposition.{Proposition}
 use Rattle.table.specs.declared.entry.Entry.{Entry}
-use Rattle.table.specs.Limits.{mostFormulas, mostStatements, mostSteps}
 use Rattle.table.specs.Spelled.{spellAll}
 use Rattle.table.specs.Tests.{entries}
-use Rattle.file.specs.Words.{wordAt, part}
+
+-- F, S1, S2 and N; the parts have F, F, S1, S2 and N words
+abbrev pub exchangeLayout : Layout
+exchangeLayout = record {
+  fields = range 1 mostFormulas ∷ range 0 mostStatements ∷ range 0 mostStatements ∷ range 0 mostSteps ∷ [];
+  parts = 0 ∷ 0 ∷ 1 ∷ 2 ∷ 3 ∷ [];
+}
 
 -- the sizes F, S1, S2 and N
 abbrev pub formulas : List ℕ → ℕ
@@ -25,30 +35,37 @@ stepCount file = wordAt file 3
 
 -- the arrays
 abbrev pub heads : List ℕ → List ℕ
-heads file = part file 4 (formulas file)
+heads file = partOf exchangeLayout file 0
 
 abbrev pub seconds : List ℕ → List ℕ
-seconds file = part file (4 + formulas file) (formulas file)
+seconds file = partOf exchangeLayout file 1
 
 abbrev pub firstList : List ℕ → List ℕ
-firstList file = part file (4 + 2 * formulas file) (firstCount file)
+firstList file = partOf exchangeLayout file 2
 
 abbrev pub secondList : List ℕ → List ℕ
-secondList file = part file (4 + 2 * formulas file + firstCount file) (secondCount file)
+secondList file = partOf exchangeLayout file 3
 
 abbrev pub steps : List ℕ → List ℕ
-steps file = part file (4 + 2 * formulas file + firstCount file + secondCount file) (stepCount file)
+steps file = partOf exchangeLayout file 4
 
--- "2 × (4 + 2F + S1 + S2 + N) bytes"
-abbrev pub bytes : ℕ → ℕ → ℕ → ℕ → ℕ
-bytes F S1 S2 N = 2 * (4 + 2 * F + S1 + S2 + N)
-
+-- the length in bytes that a file's sizes ask for, and that of the longest exchange file
 abbrev pub size : List ℕ → ℕ
-size file = bytes (formulas file) (firstCount file) (secondCount file) (stepCount file)
+size file = Any.bytes exchangeLayout file
 
--- the longest exchange file, 50,184 bytes
 abbrev pub mostBytes : ℕ
-mostBytes = bytes mostFormulas mostStatements mostStatements mostSteps
+mostBytes = Any.mostBytes exchangeLayout
+
+-- The same in 01's numbers: where each array stands, and "2 × (4 + 2F + S1 + S2 + N) bytes", at most 50,184. Proved in proofs/LayoutIs.antt.
+pub record LayoutIs (file : List ℕ) : Type 0 where
+  pub heads-at : heads file ≡ part file 4 (formulas file)
+  pub seconds-at : seconds file ≡ part file (4 + formulas file) (formulas file)
+  pub first-at : firstList file ≡ part file (4 + 2 * formulas file) (firstCount file)
+  pub second-at : secondList file ≡ part file (4 + 2 * formulas file + firstCount file) (secondCount file)
+  pub steps-at : steps file ≡ part file (4 + 2 * formulas file + firstCount file + secondCount file) (stepCount file)
+  pub size-is : size file ≡ 2 * (4 + 2 * formulas file + firstCount file + secondCount file + stepCount file)
+  pub most-is : mostBytes ≡ 50184
+  pub least-is : Any.leastBytes exchangeLayout ≡ 8
 
 -- the table taken apart, and what the two lists spell out by it
 abbrev pub table : List ℕ → List Entry

@@ -4,11 +4,11 @@ use mathlib.Core.Path.{_≡_}
 use mathlib.Core.Logic.{_↔_}
 use mathlib.Core.List.{List}
 use lib.ListN.{length, take}
+use Rattle.basics.specs.Limits.{mostSteps}
+use Rattle.basics.specs.Order.{FirstReason, checkingOrder}
 use Rattle.logic.specs.Figure1.{EqualInForce}
-use Rattle.table.specs.Limits.{mostSteps}
-use Rattle.file.specs.Refusals.{FirstReason}
-use Rattle.exchange.specs.declared.verdict.Verdict.{Verdict}
-use Rattle.exchange.specs.declared.verdict.Verdict.the-variants.{Equal, Refused}
+use Rattle.exchange.specs.declared.verdict.ExchangeVerdict.{ExchangeVerdict}
+use Rattle.exchange.specs.declared.verdict.ExchangeVerdict.the-variants.{Equal, Refused}
 use Rattle.exchange.specs.Layout.{firstCount, secondCount, stepCount, mostBytes, firstStatements, secondStatements}
 use Rattle.exchange.specs.Answer.{exchangeAnswer}
 use Rattle.exchange.specs.Proofs.{Keeps, CarriesAll}
@@ -22,9 +22,9 @@ EqualExactly = (file : List ℕ) → exchangeAnswer file ≡ Equal ↔ (Keeps fi
 abbrev pub EqualOnlyInForce : Type 0
 EqualOnlyInForce = (file : List ℕ) → exchangeAnswer file ≡ Equal → EqualInForce (firstStatements file) (secondStatements file)
 
--- Every other file, of any bytes and length, is refused by the first reason that applies, with its place.
+-- Every other file, of any bytes and length, is refused by the first reason in the checking order that applies, with its place.
 abbrev pub RefusedExactly : Type 0
-RefusedExactly = (file : List ℕ) (number p : ℕ) → exchangeAnswer file ≡ Refused number p ↔ FirstReason (Reason file) number p
+RefusedExactly = (file : List ℕ) (number p : ℕ) → exchangeAnswer file ≡ Refused number p ↔ FirstReason checkingOrder (Reason file) number p
 
 -- "Two empty lists with N = 0 are equal." (01)
 abbrev pub EmptyListsEqual : Type 0
@@ -37,7 +37,7 @@ abbrev pub ProvedAtEachPosition : Type 0
 ProvedAtEachPosition = (file : List ℕ) → exchangeAnswer file ≡ Equal → firstCount file + secondCount file ≤ stepCount file
 
 -- How large a refusal can be.
-abbrev pub Small : Verdict → Type 0
+abbrev pub Small : ExchangeVerdict → Type 0
 Small Equal = Unit
 Small (Refused number p) = (1 ≤ number) × (number ≤ 15) × (p ≤ mostSteps)
 

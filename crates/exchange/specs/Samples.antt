@@ -5,36 +5,36 @@ use mathlib.Core.Path.{_≡_}
 use mathlib.Core.List.{List, [], _∷_, _++_, map}
 use lib.ListN.{length, replicate}
 use Rattle.file.specs.Words.{fileOf}
-use Rattle.exchange.specs.declared.verdict.Verdict.{Verdict}
-use Rattle.exchange.specs.declared.verdict.Verdict.the-variants.{Equal, Refused}
+use Rattle.exchange.specs.declared.verdict.ExchangeVerdict.{ExchangeVerdict}
+use Rattle.exchange.specs.declared.verdict.ExchangeVerdict.the-variants.{Equal, Refused}
 use Rattle.exchange.specs.Answer.{exchangeAnswer}
 
 -- a row: the words of the file, and the answer
 pub record Sample : Type 0 where
   pub words : List ℕ
-  pub answer : Verdict
+  pub answer : ExchangeVerdict
 
-abbrev pub row : List ℕ → Verdict → Sample
+abbrev pub row : List ℕ → ExchangeVerdict → Sample
 row words answer = record { words = words; answer = answer }
 
 -- "Sizes F, S1, S2, N .. Then heads, seconds, the first list, the second list, N step words"
 abbrev pub exchangeOf : List ℕ → List ℕ → List ℕ → List ℕ → List ℕ → List ℕ
-exchangeOf heads seconds some others steps =
-    length heads ∷ length some ∷ length others ∷ length steps ∷ heads ++ seconds ++ some ++ others ++ steps
+exchangeOf heads seconds some second steps =
+    length heads ∷ length some ∷ length second ∷ length steps ∷ heads ++ seconds ++ some ++ second ++ steps
 
 abbrev pub Hold : List Sample → Type 0
 Hold samples = map (λ r. exchangeAnswer (fileOf (r .words))) samples ≡ map (λ r. r .answer) samples
 
 -- "K m, exchange, table atom 0, atom 1, their and (head 12288, second 1): lists [2] and [0, 1], steps 24578 0 24578 1 20480 0 1: equal."
 abbrev pub overK : List ℕ → List ℕ → List ℕ → List ℕ
-overK some others steps = exchangeOf (0 ∷ 1 ∷ 12288 ∷ []) (0 ∷ 0 ∷ 1 ∷ []) some others steps
+overK some second steps = exchangeOf (0 ∷ 1 ∷ 12288 ∷ []) (0 ∷ 0 ∷ 1 ∷ []) some second steps
 
 abbrev pub K : List ℕ
 K = overK (2 ∷ []) (0 ∷ 1 ∷ []) (24578 ∷ 0 ∷ 24578 ∷ 1 ∷ 20480 ∷ 0 ∷ 1 ∷ [])
 
 -- a table of atom 0
 abbrev pub overAtom : List ℕ → List ℕ → List ℕ → List ℕ
-overAtom some others steps = exchangeOf (0 ∷ []) (0 ∷ []) some others steps
+overAtom some second steps = exchangeOf (0 ∷ []) (0 ∷ []) some second steps
 
 -- K. "L: table of atom 0, lists [] and [0], step 0: refused 12 at 0. M: a table of entries 0 and 0: refused 5 at 1. N: first entry 20487 with
 -- second 0: refused 4 at 0." "Two empty lists with N = 0 are equal." "a statement that stands twice is proved twice": [0, 0] and [0] with three proofs,
@@ -97,7 +97,7 @@ Directions = Hold directions
 abbrev pub deep : ℕ → List ℕ
 deep n = replicate n 24577 ++ 20480 ∷ 0 ∷ 0 ∷ []
 
-abbrev pub three : ℕ → ℕ → ℕ → Verdict → Sample
+abbrev pub three : ℕ → ℕ → ℕ → ExchangeVerdict → Sample
 three k m n answer = row (exchangeOf (0 ∷ 12288 ∷ []) (0 ∷ 0 ∷ []) (1 ∷ []) (1 ∷ 1 ∷ []) (deep k ++ deep m ++ deep n)) answer
 
 abbrev pub depths : List Sample

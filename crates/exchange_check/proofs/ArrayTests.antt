@@ -3,15 +3,15 @@ use Prim.Native.Nat.{ℕ}
 use mathlib.Core.Path.{_≡_, sym, _∙_}
 use mathlib.Core.List.{List, [], _∷_}
 use lib.ListN.{length}
-use Rattle.table.specs.declared.place.Place.{Place}
-use Rattle.table.specs.declared.place.Place.the-variants.{At, Nowhere}
-use Rattle.table.specs.declared.check.Tested.{Tested}
-use Rattle.table.specs.declared.check.Tested.the-variants.{Passed, Refused}
-use Rattle.table.specs.Tests.{tableTests}
-use Rattle.file.specs.Refusals.{Test, test, firstRefusal}
-use Rattle.file.specs.Tests.{SizedTable, outside}
-use Rattle.file.proofs.TableTests as Table
-use Rattle.file.proofs.Refusals.{applies, goes-on, none-left}
+use Rattle.basics.specs.declared.place.Place.{Place}
+use Rattle.basics.specs.declared.place.Place.the-variants.{At, Nowhere}
+use Rattle.basics.specs.declared.tested.Tested.{Tested}
+use Rattle.basics.specs.declared.tested.Tested.the-variants.{Passed, Refused}
+use Rattle.basics.specs.Refusals.{Test, test, firstRefusal}
+use Rattle.basics.proofs.Refusals.{applies, goes-on, none-left}
+use Rattle.file.specs.Outside.{outside}
+use Rattle.table.specs.Tests.{tableTests, SizedTable}
+use Rattle.table.proofs.TableTests as Table
 use Rattle.exchange_check.specs.Parts.{arrayTests}
 
 module _ (heads seconds lists : List ℕ) (sized : SizedTable heads seconds) {t : Tested} (answered : t ≡ tableTests heads seconds) where
@@ -20,7 +20,7 @@ module _ (heads seconds lists : List ℕ) (sized : SizedTable heads seconds) {t 
   from-7 = test 7 (outside (length heads) lists) ∷ []
 
   abbrev all : Tested
-  all = arrayTests heads seconds lists
+  all = firstRefusal (arrayTests heads seconds lists)
 
   pub refused-4-5 : {number p : ℕ} → t ≡ Refused number p → Refused number p ≡ all
   refused-4-5 = Table.refused-4-5 heads seconds sized answered from-7

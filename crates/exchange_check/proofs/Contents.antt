@@ -1,32 +1,39 @@
 -- 4 to 15 in one: each answer of the code is a case of `arraysAnswer`. Assumes nothing.
 use Prim.Native.Nat.{ℕ}
 use mathlib.Core.Path.{_≡_, sym, ap, _∙_}
-use mathlib.Core.List.{List}
-use Rattle.table.specs.declared.check.Tested.{Tested}
-use Rattle.table.specs.declared.check.Tested.the-variants as T
-use Rattle.exchange.specs.declared.verdict.Verdict.{Verdict}
-use Rattle.exchange.specs.declared.verdict.Verdict.the-variants.{Equal, Refused}
-use Rattle.exchange.specs.Answer.{afterTests}
-use Rattle.steps_check.specs.ExchangeSteps.{stepTests}
-use Rattle.exchange_check.specs.Parts.{arrayTests, arraysAnswer}
+use mathlib.Core.List.{List, [], _∷_}
+use Rattle.basics.specs.declared.tested.Tested.{Tested}
+use Rattle.basics.specs.declared.tested.Tested.the-variants as Tests
+use Rattle.basics.specs.Refusals.{Test, firstRefusal}
+use Rattle.basics.proofs.Refusals.{joined-refused, joined-passed}
+use Rattle.exchange.specs.declared.verdict.ExchangeVerdict.{ExchangeVerdict}
+use Rattle.exchange.specs.declared.verdict.ExchangeVerdict.the-variants.{Equal, Refused}
+use Rattle.exchange.specs.Answer.{unlessRefused}
+use Rattle.exchange_check.specs.Parts.{arrayTests, stepTest, arraysAnswer}
 
-module _ (heads seconds lists some others steps : List ℕ) {t : Tested} (tested : t ≡ arrayTests heads seconds lists) where
-  abbrev all : Verdict
-  all = arraysAnswer heads seconds lists some others steps
+module _ (heads seconds lists first second steps : List ℕ) {t : Tested} (tested : t ≡ firstRefusal (arrayTests heads seconds lists)) where
+  abbrev all : ExchangeVerdict
+  all = arraysAnswer heads seconds lists first second steps
 
-  -- what follows 7
-  abbrev rest : Verdict
-  rest = afterTests (stepTests heads seconds some others steps) Equal
+  abbrev to-7 : List Test
+  to-7 = arrayTests heads seconds lists
 
-  pub refused-to-7 : {number p : ℕ} → t ≡ T.Refused number p → Refused number p ≡ all
-  refused-to-7 e = ap (λ (z : Tested). afterTests z rest) (sym e ∙ tested)
+  abbrev from-9 : List Test
+  from-9 = stepTest heads seconds first second steps ∷ []
 
-  module _ (passed : t ≡ T.Passed) {u : Tested} (walked : u ≡ stepTests heads seconds some others steps) where
-    after-7 : rest ≡ all
-    after-7 = ap (λ (z : Tested). afterTests z rest) (sym passed ∙ tested)
+  -- what the tests come to, as an answer
+  abbrev answer : Tested → ExchangeVerdict
+  answer u = unlessRefused u Equal
 
-    pub refused-to-15 : {number p : ℕ} → u ≡ T.Refused number p → Refused number p ≡ all
-    refused-to-15 e = ap (λ (z : Tested). afterTests z Equal) (sym e ∙ walked) ∙ after-7
+  pub refused-to-7 : {number p : ℕ} → t ≡ Tests.Refused number p → Refused number p ≡ all
+  refused-to-7 e = ap answer (sym (joined-refused to-7 from-9 (sym tested ∙ e)))
 
-    pub equal-by-all : u ≡ T.Passed → Equal ≡ all
-    equal-by-all e = ap (λ (z : Tested). afterTests z Equal) (sym e ∙ walked) ∙ after-7
+  module _ (passed : t ≡ Tests.Passed) {u : Tested} (walked : u ≡ firstRefusal from-9) where
+    after-7 : answer u ≡ all
+    after-7 = ap answer (walked ∙ sym (joined-passed to-7 from-9 (sym tested ∙ passed)))
+
+    pub refused-to-15 : {number p : ℕ} → u ≡ Tests.Refused number p → Refused number p ≡ all
+    refused-to-15 e = ap answer (sym e) ∙ after-7
+
+    pub equal-by-all : u ≡ Tests.Passed → Equal ≡ all
+    equal-by-all e = ap answer (sym e) ∙ after-7

@@ -1,23 +1,26 @@
--- What the private functions of the check answer: 4, 5 and 7 over a file's arrays, and with 9 to 15 (steps_check/specs/ExchangeSteps.antt) all that follows
--- 1 to 3 (layout_check/specs/ExchangeLayout.antt). Together they are `exchangeAnswer`. Assumes nothing.
+-- What the parts of the check answer, over a file's arrays: 4, 5 and 7, 9 to 15, and both. With 1 to 3 they are `exchangeAnswer`. Assumes nothing.
 use Prim.Native.Nat.{ℕ}
-use mathlib.Core.List.{List, [], _∷_}
+use mathlib.Core.List.{List, [], _∷_, _++_}
 use lib.ListN.{length}
-use Rattle.table.specs.declared.check.Tested.{Tested}
-use Rattle.table.specs.Tests.{entries, wrongEntry, repeatedEntry}
-use Rattle.file.specs.Refusals.{test, firstRefusal}
-use Rattle.file.specs.Tests.{outside}
-use Rattle.exchange.specs.declared.verdict.Verdict.{Verdict}
-use Rattle.exchange.specs.declared.verdict.Verdict.the-variants.{Equal}
-use Rattle.exchange.specs.Answer.{afterTests}
-use Rattle.steps_check.specs.ExchangeSteps.{stepTests}
+use Rattle.basics.specs.Refusals.{Test, test, firstRefusal}
+use Rattle.file.specs.Outside.{outside}
+use Rattle.table.specs.Tests.{entries, entryTests}
+use Rattle.steps.specs.Obligation.{obligations}
+use Rattle.steps.specs.Run.{walked}
+use Rattle.steps.specs.Figure1.{run}
+use Rattle.exchange.specs.declared.verdict.ExchangeVerdict.{ExchangeVerdict}
+use Rattle.exchange.specs.declared.verdict.ExchangeVerdict.the-variants.{Equal}
+use Rattle.exchange.specs.Answer.{unlessRefused}
 
 -- 4, 5 and 7, for a table of F entries and both lists, one after the other
-abbrev pub arrayTests : List ℕ → List ℕ → List ℕ → Tested
-arrayTests heads seconds lists =
-    firstRefusal (test 4 (wrongEntry (entries heads seconds)) ∷ test 5 (repeatedEntry heads seconds) ∷ test 7 (outside (length heads) lists) ∷ [])
+abbrev pub arrayTests : List ℕ → List ℕ → List ℕ → List Test
+arrayTests heads seconds lists = entryTests heads seconds ++ (test 7 (outside (length heads) lists) ∷ [])
+
+-- 9 to 15: the second list is to be proved from the first, then the first from the second
+abbrev pub stepTest : List ℕ → List ℕ → List ℕ → List ℕ → List ℕ → Test
+stepTest heads seconds first second steps = walked (run (entries heads seconds) steps (obligations first second ++ obligations second first))
 
 -- 4 to 15, over arrays of a size that 2 allows
-abbrev pub arraysAnswer : List ℕ → List ℕ → List ℕ → List ℕ → List ℕ → List ℕ → Verdict
-arraysAnswer heads seconds lists some others steps =
-    afterTests (arrayTests heads seconds lists) (afterTests (stepTests heads seconds some others steps) Equal)
+abbrev pub arraysAnswer : List ℕ → List ℕ → List ℕ → List ℕ → List ℕ → List ℕ → ExchangeVerdict
+arraysAnswer heads seconds lists first second steps =
+    unlessRefused (firstRefusal (arrayTests heads seconds lists ++ (stepTest heads seconds first second steps ∷ []))) Equal

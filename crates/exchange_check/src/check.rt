@@ -2,19 +2,19 @@
 ghost use Prim.Native.Nat.{_*_, _≤_};
 ghost use mathlib.Core.Path.{_≡_};
 ghost use lib.ListN.{length};
-ghost use Rattle.file.specs.Tests.{SizedTable};
+ghost use Rattle.table.specs.Tests.{SizedTable};
 ghost use Rattle.exchange.specs.Answer.{exchangeAnswer};
 ghost use Rattle.exchange.specs.Proofs.{Sized};
 ghost use Rattle.exchange_check.specs.Parts.{arraysAnswer};
 use crate::arrays::check_arrays;
-use exchange::verdict::Verdict;
+use crate::layout::MOST_WORDS;
+use crate::layout::check_layout;
+use crate::proofs::check_steps;
+use basics::tested::Tested;
+use exchange::verdict::ExchangeVerdict;
+use file::words::FEW_WORDS;
 use file::words::read_words;
-use layout_check::exchange_layout::check_layout;
-use layout_check::exchange_layout::read_sizes;
-use layout_check::exchange_limits::MOST_WORDS;
-use layout_check::limits::FEW_WORDS;
-use steps_check::exchange_steps::check_steps;
-use table::check::Tested;
+use file::words::word_at;
 
 // 4 to 15. The two lists stand one after the other in `lists`.
 fn check_contents(
@@ -24,32 +24,32 @@ fn check_contents(
     first: &[u16],
     second: &[u16],
     steps: &[u16],
-) -> Verdict
+) -> ExchangeVerdict
     requires { ⌜ SizedTable (now heads) (now seconds) ⌝ }
     ensures { λ r. ⌜ r ≡ arraysAnswer (now (heads .entry)) (now (seconds .entry)) (now (lists .entry)) (now (first .entry)) (now (second .entry)) (now (steps .entry)) ⌝ }
 {
     if let Tested::Refused { number, place } = check_arrays(heads, seconds, lists) {
-        return Verdict::Refused { number, place };
+        return ExchangeVerdict::Refused { number, place };
     }
     if let Tested::Refused { number, place } = check_steps(heads, seconds, first, second, steps) {
-        return Verdict::Refused { number, place };
+        return ExchangeVerdict::Refused { number, place };
     }
-    Verdict::Equal
+    ExchangeVerdict::Equal
 }
 
 // 4 to 15 of a file that 1 to 3 let pass. Its words are read into `words`, which has room for them.
-fn check_sized(file: &[u8], words: &mut [u16]) -> Verdict
+fn check_sized(file: &[u8], words: &mut [u16]) -> ExchangeVerdict
     requires { ⌜ Sized (now file) ⌝ }
     requires { ⌜ length (now file) ≤ 2 * length (now words) ⌝ }
     ensures { λ r. ⌜ r ≡ exchangeAnswer (now (file .entry)) ⌝ }
 {
     read_words(file, words);
-    let s = read_sizes(file);
-    let seconds_from = 4 + s.formulas as usize;
-    let first_from = seconds_from + s.formulas as usize;
-    let second_from = first_from + s.first as usize;
-    let steps_from = second_from + s.second as usize;
-    let end = steps_from + s.steps as usize;
+    let formulas = word_at(file, 0) as usize;
+    let seconds_from = 4 + formulas;
+    let first_from = seconds_from + formulas;
+    let second_from = first_from + word_at(file, 1) as usize;
+    let steps_from = second_from + word_at(file, 2) as usize;
+    let end = steps_from + word_at(file, 3) as usize;
     check_contents(
         &words[4..seconds_from],
         &words[seconds_from..first_from],
@@ -62,11 +62,11 @@ fn check_sized(file: &[u8], words: &mut [u16]) -> Verdict
 
 // The answer for a file of any bytes and length: equal exactly where it carries all proofs (`EqualExactly`), and so only for lists equal in force.
 // Nothing is lent but the file, which is only read.
-pub fn check_exchange(file: &[u8]) -> Verdict
+pub fn check_exchange(file: &[u8]) -> ExchangeVerdict
     ensures { λ r. ⌜ r ≡ exchangeAnswer (now (file .entry)) ⌝ }
 {
     if let Tested::Refused { number, place } = check_layout(file) {
-        return Verdict::Refused { number, place };
+        return ExchangeVerdict::Refused { number, place };
     }
     if file.len() <= 2 * FEW_WORDS {
         let mut words = [0u16; FEW_WORDS];

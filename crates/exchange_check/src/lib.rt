@@ -1,3 +1,5 @@
-// The exchange check in code: 4, 5 and 7, and all tests in order, 1 to 3 by `layout_check` and 9 to 15 by `steps_check`. `exchange` has what it answers.
+// The exchange check in code: 1 to 3, 4, 5 and 7, 9 to 15, and all of them in order. `exchange` has what it answers.
 mod arrays;
 pub mod check;
+pub mod layout;
+mod proofs;

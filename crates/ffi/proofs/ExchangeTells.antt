@@ -2,26 +2,26 @@
 use Prim.Native.Nat.{ℕ, _≤_}
 use native.Mathlib.Omega.{arith}
 use mathlib.Core.Path.{_≡_, refl, sym, ap, ap₂, subst}
-use Rattle.table.specs.Limits.{mostSteps}
-use Rattle.exchange.specs.declared.verdict.Verdict.{Verdict}
-use Rattle.exchange.specs.declared.verdict.Verdict.the-variants.{Equal, Refused}
+use Rattle.basics.specs.Limits.{mostSteps}
+use Rattle.exchange.specs.declared.verdict.ExchangeVerdict.{ExchangeVerdict}
+use Rattle.exchange.specs.declared.verdict.ExchangeVerdict.the-variants.{Equal, Refused}
 use Rattle.exchange.specs.Promises.{Small}
 use Rattle.ffi.specs.RefusalCode.{refusalCode}
 use Rattle.ffi.specs.ExchangeCode.{exchangeCode, ExchangeCodeHalves, ExchangeCodeTells}
 use Rattle.ffi.proofs.Refusals.{refusal-halves, refusal-above, refusal-tells}
 
 -- Where the code has found equal,
-pub equal-code : {v : Verdict} → v ≡ Equal → 0 ≡ exchangeCode v
+pub equal-code : {v : ExchangeVerdict} → v ≡ Equal → 0 ≡ exchangeCode v
 unfolding exchangeCode
 equal-code is = sym (ap exchangeCode is)
 
 -- or a refusal, it answers that case of `exchangeCode`,
-pub refused-code : {v : Verdict} {number place : ℕ} → v ≡ Refused number place → refusalCode number place ≡ exchangeCode v
+pub refused-code : {v : ExchangeVerdict} {number place : ℕ} → v ≡ Refused number place → refusalCode number place ≡ exchangeCode v
 unfolding exchangeCode
 refused-code is = sym (ap exchangeCode is)
 
 -- and a refusal's place is within its bound.
-pub refused-within : {v : Verdict} {number place : ℕ} → Small v → v ≡ Refused number place → place ≤ mostSteps
+pub refused-within : {v : ExchangeVerdict} {number place : ℕ} → Small v → v ≡ Refused number place → place ≤ mostSteps
 refused-within {v} {number} {place} small is = subst Small is small .2
 
 pub exchange-code-halves : ExchangeCodeHalves

@@ -2,7 +2,7 @@
 use Prim.Native.Nat.{ℕ, _/_, _%_, _≤_}
 use native.Mathlib.Omega.{arith}
 use mathlib.Core.Path.{_≡_}
-use Rattle.table.specs.Limits.{mostSteps}
+use Rattle.basics.specs.Limits.{mostSteps}
 use Rattle.ffi.specs.RefusalCode.{half, refusalCode, RefusalHalves}
 
 -- A place in a file is less than 2^32, so the number is all of the upper half.

@@ -2,26 +2,26 @@
 use Prim.Native.Nat.{ℕ, _≤_}
 use native.Mathlib.Omega.{arith}
 use mathlib.Core.Path.{_≡_, sym, ap, ap₂, subst}
-use Rattle.table.specs.Limits.{mostSteps}
-use Rattle.record.specs.declared.verdict.Verdict.{Verdict}
-use Rattle.record.specs.declared.verdict.Verdict.the-variants.{Granted, Refused}
+use Rattle.basics.specs.Limits.{mostSteps}
+use Rattle.record.specs.declared.verdict.RecordVerdict.{RecordVerdict}
+use Rattle.record.specs.declared.verdict.RecordVerdict.the-variants.{Granted, Refused}
 use Rattle.record.specs.Promises.{Small}
 use Rattle.ffi.specs.RefusalCode.{refusalCode}
 use Rattle.ffi.specs.Code.{answerCode, CodeHalves, CodeTells}
 use Rattle.ffi.proofs.Refusals.{refusal-halves, refusal-above, refusal-tells}
 
 -- Where the code has found a grant,
-pub granted-code : {v : Verdict} {count : ℕ} → v ≡ Granted count → count ≡ answerCode v
+pub granted-code : {v : RecordVerdict} {count : ℕ} → v ≡ Granted count → count ≡ answerCode v
 unfolding answerCode
 granted-code is = sym (ap answerCode is)
 
 -- or a refusal, it answers that case of `answerCode`,
-pub refused-code : {v : Verdict} {number place : ℕ} → v ≡ Refused number place → refusalCode number place ≡ answerCode v
+pub refused-code : {v : RecordVerdict} {number place : ℕ} → v ≡ Refused number place → refusalCode number place ≡ answerCode v
 unfolding answerCode
 refused-code is = sym (ap answerCode is)
 
 -- and a refusal's place is within its bound.
-pub refused-within : {v : Verdict} {number place : ℕ} → Small v → v ≡ Refused number place → place ≤ mostSteps
+pub refused-within : {v : RecordVerdict} {number place : ℕ} → Small v → v ≡ Refused number place → place ≤ mostSteps
 refused-within {v} {number} {place} small is = subst Small is small .2
 
 pub code-halves : CodeHalves

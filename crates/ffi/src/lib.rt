@@ -3,18 +3,18 @@
 ghost use Prim.Native.Nat.{_≤_};
 ghost use mathlib.Core.Path.{_≡_};
 ghost use lib.ListN.{length};
-ghost use Rattle.table.specs.Limits.{mostSteps};
+ghost use Rattle.basics.specs.Limits.{mostSteps};
 ghost use Rattle.record.specs.Answer.{recordAnswer};
-ghost use Rattle.record.specs.Lent.{Left};
+ghost use Rattle.record.specs.ListAfter.{ListAfter};
 ghost use Rattle.record.specs.Promises.{Small};
 ghost use Rattle.exchange.specs.Answer.{exchangeAnswer};
 ghost use Rattle.exchange.specs.Promises.{Small as ExchangeSmall};
 ghost use Rattle.ffi.specs.RefusalCode.{refusalCode};
 ghost use Rattle.ffi.specs.Code.{answerCode};
 ghost use Rattle.ffi.specs.ExchangeCode.{exchangeCode};
-use exchange::verdict::Verdict as Exchange;
+use exchange::verdict::ExchangeVerdict;
 use exchange_check::check::check_exchange;
-use record::verdict::Verdict;
+use record::verdict::RecordVerdict;
 use record_check::check::check_record;
 
 // One number for a refusal within its bounds, of a record or of an exchange file.
@@ -26,24 +26,24 @@ fn refusal_code(number: u8, place: usize) -> u64
 }
 
 // One number for an answer within its bounds.
-fn answer_code(verdict: Verdict) -> u64
+fn answer_code(verdict: RecordVerdict) -> u64
     requires { ⌜ Small verdict ⌝ }
     ensures { λ r. ⌜ r ≡ answerCode verdict ⌝ }
 {
     match verdict {
-        Verdict::Granted(count) => count as u64,
-        Verdict::Refused { number, place } => refusal_code(number, place),
+        RecordVerdict::Granted(count) => count as u64,
+        RecordVerdict::Refused { number, place } => refusal_code(number, place),
     }
 }
 
 // The same for an exchange file's.
-fn exchange_code(verdict: Exchange) -> u64
+fn exchange_code(verdict: ExchangeVerdict) -> u64
     requires { ⌜ ExchangeSmall verdict ⌝ }
     ensures { λ r. ⌜ r ≡ exchangeCode verdict ⌝ }
 {
     match verdict {
-        Exchange::Equal => 0,
-        Exchange::Refused { number, place } => refusal_code(number, place),
+        ExchangeVerdict::Equal => 0,
+        ExchangeVerdict::Refused { number, place } => refusal_code(number, place),
     }
 }
 
@@ -52,7 +52,7 @@ fn exchange_code(verdict: Exchange) -> u64
 #[no_mangle]
 pub extern "C" fn wethrynda_check_record(file: &[u8], signers: &mut [u16]) -> u64
     ensures { λ r. ⌜ r ≡ answerCode (recordAnswer (now (file .entry)) (length (now (signers .entry)))) ⌝ }
-    ensures { λ _. ⌜ Left (now (file .entry)) (recordAnswer (now (file .entry)) (length (now (signers .entry)))) (now (signers .entry)) (now (signers .exit)) ⌝ }
+    ensures { λ _. ⌜ ListAfter (now (file .entry)) (recordAnswer (now (file .entry)) (length (now (signers .entry)))) (now (signers .entry)) (now (signers .exit)) ⌝ }
 {
     let verdict = check_record(file, signers);
     answer_code(verdict)

@@ -1,18 +1,16 @@
--- The first number of F or more (specs/Tests.antt, `outside`), as a loop finds it, and where there is none. Assumes nothing.
-use Prim.Native.Nat.{ℕ, zero, suc, _<_}
-use native.Mathlib.Omega.{arith}
+-- The first number of F or more (specs/Outside.antt, `outside`), as a loop finds it, and where there is none. Assumes nothing.
+use Prim.Native.Nat.{ℕ, _<_}
 use mathlib.Core.Bool.{true}
-use mathlib.Core.Path.{_≡_, refl, sym, ap, subst, _∙_}
-use mathlib.Core.Logic.{⊎-elim}
-use mathlib.Core.List.{List, [], _∷_, List·Memᴰ·head, List·Memᴰ·tail, List·Memᴰ·cases-cons, List·Memᴰ·not-nil}
+use mathlib.Core.Path.{_≡_, sym, ap, _∙_}
+use mathlib.Core.List.{List}
 use lib.ListN.{length, getD}
 use lib.Dec.{leb}
-use Rattle.logic.specs.Hypotheses.{_∈_}
-use Rattle.table.specs.declared.place.Place.the-variants.{At, Nowhere}
-use Rattle.table.specs.First.{first}
-use Rattle.table.proofs.First.{first-at, no-place}
-use Rattle.file.specs.Tests.{outside, NoneOutside}
-use Rattle.file.proofs.Asked.{not-at-most}
+use Rattle.basics.specs.declared.place.Place.the-variants.{At, Nowhere}
+use Rattle.basics.specs.First.{first}
+use Rattle.basics.proofs.First.{first-at, no-place}
+use Rattle.basics.proofs.Membership.{member-at, at-each}
+use Rattle.basics.proofs.Asked.{not-at-most}
+use Rattle.file.specs.Outside.{outside, NoneOutside}
 
 -- One at position i, and none before it.
 pub outside-at :
@@ -25,18 +23,6 @@ pub outside-nowhere :
     (F : ℕ) (numbers : List ℕ) (i : ℕ) → i ≡ length numbers
     → first (λ j. leb F (getD numbers j 0)) i ≡ Nowhere → Nowhere ≡ outside F numbers
 outside-nowhere F numbers i end none = sym (ap (λ (n : ℕ). first (λ j. leb F (getD numbers j 0)) n) (sym end) ∙ none)
-
--- What stands at a position is a member,
-pub member-at : (l : List ℕ) (i : ℕ) → i < length l → getD l i 0 ∈ l
-member-at [] i b = absurd (omega arith)
-member-at (n ∷ l) zero b = List·Memᴰ·head refl
-member-at (n ∷ l) (suc i) b = List·Memᴰ·tail (member-at l i (omega arith))
-
--- and what holds at each position holds of each member.
-pub at-each : (P : ℕ → Type 0) (l : List ℕ) → ((i : ℕ) → i < length l → P (getD l i 0)) → (n : ℕ) → n ∈ l → P n
-at-each P [] holds n m = absurd (List·Memᴰ·not-nil m)
-at-each P (k ∷ l) holds n m =
-    ⊎-elim (λ e. subst P (sym e) (holds zero (omega arith))) (at-each P l (λ i b. holds (suc i) (omega arith)) n) (List·Memᴰ·cases-cons m)
 
 pub none-outside : NoneOutside
 none-outside F numbers =

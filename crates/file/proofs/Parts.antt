@@ -1,4 +1,4 @@
--- Parts of a file's words (specs/Words.antt, `part`): how long they are, two that join, and those that code cuts out of the words that it
+-- Parts of a file's words (specs/Words.antt, `part`): how long they are, two that join, and those that code takes out of the words that it
 -- has read. Assumes nothing.
 use Prim.Native.Nat.{ℕ, _+_, _-_, _≤_}
 use native.Mathlib.Omega.{arith}
@@ -6,8 +6,8 @@ use mathlib.Core.Path.{_≡_, ap, _∙_}
 use mathlib.Core.List.{List, _++_}
 use lib.ListN.{length, take, drop, length-take, length-drop}
 use lib.Seq.{length-take-le, take-add, drop-drop}
-use Rattle.lent.specs.Written.{written}
-use Rattle.lent.proofs.Written.{part-written}
+use Rattle.basics.specs.Written.{written}
+use Rattle.basics.proofs.Written.{part-written}
 use Rattle.file.specs.Words.{fileWords, part}
 
 module _ (file : List ℕ) where
@@ -24,10 +24,10 @@ module _ (file : List ℕ) where
   part-joined from m n =
       take-add m n (drop from (fileWords file)) ∙ ap (λ (r : List ℕ). part file from m ++ take n r) (drop-drop m from (fileWords file))
 
--- The code reads the words into a list that has room for them. What it cuts from one place to another is that part of the file.
+-- The code reads the words into a list that has room for them. What it takes from one place to another is that part of the file.
 module _ (file old : List ℕ) {words : List ℕ} (read : words ≡ written old (fileWords file)) (room : length (fileWords file) ≤ length old) where
-  pub cut : (from to at count : ℕ) → from ≡ at → to ≡ at + count → at + count ≤ length (fileWords file)
+  pub slice : (from to at count : ℕ) → from ≡ at → to ≡ at + count → at + count ≤ length (fileWords file)
       → take (to - from) (drop from words) ≡ part file at count
-  cut from to at count e f l =
+  slice from to at count e f l =
       let many : to - from ≡ count = omega arith in
       (λ i. take (many i) (drop (e i) (read i))) ∙ part-written old (fileWords file) at count l room

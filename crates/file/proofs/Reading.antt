@@ -6,8 +6,8 @@ use mathlib.Core.Path.{_≡_, sym, ap, _∙_}
 use mathlib.Core.List.{List, [], _∷_, _++_}
 use lib.ListN.{length, getD, take, drop, set, take-append-drop}
 use lib.Seq.{length-take-le, take-all, take-suc}
-use Rattle.lent.specs.Written.{written}
-use Rattle.lent.proofs.Written.{written-length, written-more, written-full}
+use Rattle.basics.specs.Written.{written}
+use Rattle.basics.proofs.Written.{written-length, written-more, written-full}
 use Rattle.file.specs.Words.{fileWords, wordAt}
 use Rattle.file.proofs.FileWords.{half-as-many, word-here}
 

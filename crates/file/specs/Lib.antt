@@ -1,4 +1,5 @@
--- What records and exchange files share: 16-bit words of bytes, parts of a file, the first refusal that applies, and the tests of both.
+-- What all kinds of file share: 16-bit words of bytes, a layout as data with tests 1 to 3, and test 7.
 pub mod Words
-pub mod Refusals
-pub mod Tests
+pub mod Layout
+pub mod Reasons
+pub mod Outside

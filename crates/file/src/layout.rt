@@ -1,14 +1,14 @@
-// Tests 1 to 3, which a file's length and sizes decide.
+// Tests 1 to 3, which a file's length and sizes decide, for any layout.
 ghost use mathlib.Core.Path.{_≡_};
-ghost use Rattle.file.specs.Refusals.{firstRefusal};
-ghost use Rattle.file.specs.Tests.{layoutTests};
-use table::check::Tested;
+ghost use Rattle.basics.specs.Refusals.{firstRefusal};
+ghost use Rattle.file.specs.Layout.{testsBy};
+use basics::tested::Tested;
 
-// 1 to 3 of a file, by whether its sizes are in range and the length that they ask for.
-pub fn check_layout(file: &[u8], fit: bool, size: usize) -> Tested
-    ensures { λ r. ⌜ r ≡ firstRefusal (layoutTests (now (file .entry)) fit size) ⌝ }
+// 1 to 3 of a file, by the least number of bytes, whether its sizes are in range, and the length that they ask for.
+pub fn check_layout(file: &[u8], least: usize, fit: bool, size: usize) -> Tested
+    ensures { λ r. ⌜ r ≡ firstRefusal (testsBy (now (file .entry)) least fit size) ⌝ }
 {
-    if file.len() < 8 {
+    if file.len() < least {
         return Tested::Refused {
             number: 1,
             place: 0,

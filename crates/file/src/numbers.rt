@@ -1,15 +1,21 @@
 // Numbers in a range.
 ghost use mathlib.Core.Path.{_≡_};
 ghost use lib.Dec.{leb};
-ghost use Rattle.table.specs.Choice.{both};
-ghost use Rattle.file.specs.Tests.{outside};
-use table::place::Place;
+ghost use Rattle.basics.specs.Choice.{both};
+ghost use Rattle.file.specs.Outside.{outside};
+use basics::place::Place;
 
-// Whether a number is from least to most.
-pub fn between(least: usize, n: usize, most: usize) -> bool
-    ensures { λ r. ⌜ r ≡ both (leb least n) (leb n most) ⌝ }
+// Whether a size is from least to most, and those after it are in their ranges.
+pub fn fits(least: usize, n: usize, most: usize, rest: bool) -> bool
+    ensures { λ r. ⌜ r ≡ both (both (leb least n) (leb n most)) rest ⌝ }
 {
-    least <= n && n <= most
+    if n < least {
+        return false;
+    }
+    if most < n {
+        return false;
+    }
+    rest
 }
 
 // Whether a number is F or more.

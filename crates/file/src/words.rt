@@ -1,8 +1,12 @@
 // "A file of 16-bit words, low byte first" (01).
 ghost use Prim.Native.Nat.{_+_, _*_};
 ghost use mathlib.Core.Path.{_≡_};
-ghost use Rattle.lent.specs.Written.{written};
+ghost use Rattle.basics.specs.Written.{written};
 ghost use Rattle.file.specs.Words.{fileWords, wordAt};
+
+// Room for the words of a short file. An array is cleared before a file's words are read into it, and clearing the longest file's room takes
+// longer than all else in the check of a short file.
+pub const FEW_WORDS: usize = 1024;
 
 // A word of its two bytes.
 fn word(low: u8, high: u8) -> u16

@@ -9,26 +9,16 @@ use lib.Dec.{eqb}
 use lib.ListN.{length, replicate, length-append, length-set, length-replicate, getD-replicate}
 use lib.Seq.{getD-set-same, getD-set-other, append-snoc}
 use borrow.Author.Tests.{eqb-true, eqb-false}
-use Rattle.table.specs.Choice.{pick}
-use Rattle.table.specs.Limits.{mostFormulas}
-use Rattle.table.proofs.Choice.{pick-cases}
-use Rattle.steps.specs.Obligation.{added, holds}
+use Rattle.basics.specs.Choice.{pick}
+use Rattle.basics.specs.Limits.{mostFormulas}
+use Rattle.basics.proofs.Choice.{pick-cases}
+use Rattle.basics.proofs.Membership.{holds-last}
+use Rattle.basics.specs.Membership.{holds}
+use Rattle.steps.specs.Obligation.{added}
 use Rattle.steps.specs.declared.opened.Added.{Added}
 use Rattle.hypotheses.specs.Slots.{isHeld, Held, heldOne, heldAll, heldAdded, addedCount}
 
 -- ---- one more hypothesis
-
--- Which of two tests comes first makes no difference.
-either : (a b c : Bool) → pick a true (pick b true c) ≡ pick b true (pick a true c)
-either true true c = refl
-either true false c = refl
-either false b c = refl
-
--- Among the hypotheses and f after them stand f and what stood there.
-at-last : (hs : List ℕ) (f n : ℕ) → holds (hs ++ (f ∷ [])) n ≡ pick (eqb f n) true (holds hs n)
-unfolding holds
-at-last [] f n = refl
-at-last (h ∷ hs) f n = rw (at-last hs f n) (either (eqb h n) (eqb f n) (holds hs n))
 
 -- In the slots, it is the same.
 slot-of : (s : List Bool) (f n : ℕ) → n < length s → isHeld (heldOne s f) n ≡ pick (eqb f n) true (isHeld s n)
@@ -41,7 +31,7 @@ held-one : {hs : List ℕ} {s : List Bool} {c : ℕ} (f : ℕ) → Held hs s c �
 held-one {hs} {s} {c} f h = record {
   counted = rw (length-append, h .counted);
   sized = length-set s f true ∙ h .sized;
-  slot = λ n l. rw (at-last, ← h .slot n l) (slot-of s f n (omega (arith, h .sized)));
+  slot = λ n l. rw (holds-last, ← h .slot n l) (slot-of s f n (omega (arith, h .sized)));
 }
 
 -- ---- more hypotheses

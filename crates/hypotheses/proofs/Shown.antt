@@ -1,5 +1,5 @@
 -- The hypotheses that slots show, and that a step asks nothing else of hypotheses than whether the named one is there. Assumes nothing.
-use Prim.Native.Nat.{ℕ, zero, suc, _+_, _<_, _/_, _%_}
+use Prim.Native.Nat.{ℕ, zero, suc, _+_, _<_}
 use native.Mathlib.Omega.{arith}
 use native.Mathlib.Nat.{add-zero, add-suc, suc-add}
 use mathlib.Core.Bool.{Bool, true, false}
@@ -7,10 +7,11 @@ use mathlib.Core.Path.{_≡_, refl, sym, ap, _∙_}
 use mathlib.Core.List.{List, [], _∷_}
 use lib.ListN.{getD}
 use borrow.Author.Tests.{eq-eqb, ne-eqb}
+use Rattle.basics.specs.Limits.{mostFormulas}
+use Rattle.basics.specs.Membership.{holds}
+use Rattle.basics.specs.Word.{upper, lower}
 use Rattle.table.specs.declared.entry.Entry.{Entry}
-use Rattle.table.specs.Limits.{mostFormulas}
 use Rattle.steps.specs.declared.goal.Goal.{Goal}
-use Rattle.steps.specs.Obligation.{holds}
 use Rattle.steps.specs.Step.{Rule, names, plain, unknown, rules, applied, opens, step}
 use Rattle.steps.specs.Figure1 as Figure1
 use Rattle.steps.specs.Figure1.{same}
@@ -55,6 +56,6 @@ pub step-shown : (es : List Entry) (slots : List Bool) (hs : List ℕ) (w : ℕ)
     → Figure1.step es w (record { hypotheses = shown slots; goal = g; depth = d }) ≡ Figure1.step es w (record { hypotheses = hs; goal = g; depth = d })
 unfolding step opens
 step-shown es slots hs w g d shows =
-    let n = w % 4096 in
-    rw (applied-same es (getD (rules same es) (w / 4096) unknown) (shown slots) hs n g
+    let n = lower w in
+    rw (applied-same es (getD (rules same es) (upper w) unknown) (shown slots) hs n g
     (sym (shows-shown slots n (omega arith)) ∙ shows n (omega arith)))

@@ -5,9 +5,10 @@ use mathlib.Core.Bool.{Bool, true, false}
 use mathlib.Core.Path.{_≡_}
 use mathlib.Core.List.{List, [], _∷_}
 use lib.ListN.{length, getD, set}
-use Rattle.table.specs.Choice.{pick}
-use Rattle.table.specs.Limits.{mostFormulas}
-use Rattle.steps.specs.Obligation.{added, holds}
+use Rattle.basics.specs.Choice.{pick}
+use Rattle.basics.specs.Limits.{mostFormulas}
+use Rattle.basics.specs.Membership.{holds}
+use Rattle.steps.specs.Obligation.{added}
 use Rattle.steps.specs.declared.opened.Added.{Added}
 use Rattle.steps.specs.declared.opened.Added.the-variants.{Nothing, One, Two}
 use Rattle.hypotheses.specs.declared.hypotheses.Saved.{Saved}

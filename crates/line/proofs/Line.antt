@@ -8,9 +8,9 @@ use lib.Dec.{leb}
 use lib.ListN.{length, take}
 use lib.Seq.{length-take-le}
 use borrow.Author.Tests.{leb-true}
-use Rattle.table.specs.Choice.{pick}
-use Rattle.lent.specs.Written.{written, writtenAt}
-use Rattle.lent.proofs.Written.{written-length}
+use Rattle.basics.specs.Choice.{pick}
+use Rattle.basics.specs.Written.{written, writtenAt}
+use Rattle.basics.proofs.Written.{written-length}
 use Rattle.text.specs.Fill.{placeAfter}
 use Rattle.text.proofs.Places.{fill-fits}
 use Rattle.line.specs.Line.{lineAfter, lineCount}

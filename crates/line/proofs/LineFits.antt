@@ -4,13 +4,13 @@ use native.Mathlib.Omega.{arith}
 use mathlib.Core.Path.{refl}
 use mathlib.Core.List.{List, [], _∷_, _++_, List·Memᴰ·head, List·Memᴰ·tail}
 use lib.ListN.{length, take, length-append}
-use Rattle.logic.specs.Hypotheses.{_∈_}
-use Rattle.table.specs.Limits.{mostSteps}
+use Rattle.basics.specs.Membership.{_∈_}
+use Rattle.basics.specs.Limits.{mostSteps}
 use Rattle.text.specs.Ascii.{ascii}
 use Rattle.text.specs.Decimal.{decimal}
 use Rattle.text.proofs.Digits.{decimal-length}
-use Rattle.record.specs.declared.verdict.Verdict.the-variants.{Granted, Refused}
-use Rattle.exchange.specs.declared.verdict.Verdict.the-variants.{Equal, Refused as ExchangeRefused}
+use Rattle.record.specs.declared.verdict.RecordVerdict.the-variants.{Granted, Refused}
+use Rattle.exchange.specs.declared.verdict.ExchangeVerdict.the-variants.{Equal, Refused as ExchangeRefused}
 use Rattle.line.specs.RefusedLine.{refusedLine}
 use Rattle.line.specs.RecordLine.{listed, recordLine, LineFits}
 use Rattle.line.specs.ExchangeLine.{exchangeLine, ExchangeLineFits}

@@ -8,17 +8,17 @@ use mathlib.Core.List.{List, [], _∷_, _++_, List·Memᴰ·tail, List·Memᴰ·
 use lib.ListN.{length, drop, replicate}
 use lib.Dec.{leb}
 use borrow.Author.Tests.{le-leb}
-use Rattle.logic.specs.Hypotheses.{_∈_}
-use Rattle.table.specs.Choice.{pick}
-use Rattle.table.specs.Limits.{mostStatements}
-use Rattle.lent.specs.Written.{written}
-use Rattle.lent.proofs.Written.{written-fits}
+use Rattle.basics.specs.Membership.{_∈_}
+use Rattle.basics.specs.Choice.{pick}
+use Rattle.basics.specs.Limits.{mostStatements}
+use Rattle.basics.specs.Written.{written}
+use Rattle.basics.proofs.Written.{written-fits}
 use Rattle.signers.proofs.Joined.{signers-are-principals}
-use Rattle.record.specs.declared.verdict.Verdict.{Verdict}
-use Rattle.record.specs.declared.verdict.Verdict.the-variants.{Granted, Refused}
+use Rattle.record.specs.declared.verdict.RecordVerdict.{RecordVerdict}
+use Rattle.record.specs.declared.verdict.RecordVerdict.the-variants.{Granted, Refused}
 use Rattle.record.specs.Layout.{heads, seconds, statements}
 use Rattle.record.specs.Answer.{recordAnswer}
-use Rattle.record.specs.Lent.{Left}
+use Rattle.record.specs.ListAfter.{ListAfter}
 use Rattle.record.proofs.Small.{answers-small}
 use Rattle.exchange.specs.Answer.{exchangeAnswer}
 use Rattle.exchange.proofs.Small.{answers-small as exchange-answers-small}
@@ -40,12 +40,12 @@ of-zeros zero m = absurd (List·Memᴰ·not-nil m)
 of-zeros (suc n) m = ⊎-elim (λ e. e) (of-zeros n) (List·Memᴰ·cases-cons m)
 
 -- They are numbers of principals, or 0 as they were.
-are-words : (file : List ℕ) (n : ℕ) (v : Verdict) (list : List ℕ) → Left file v (replicate n 0) list → (k : ℕ) → k ∈ list → k < 65536
+are-words : (file : List ℕ) (n : ℕ) (v : RecordVerdict) (list : List ℕ) → ListAfter file v (replicate n 0) list → (k : ℕ) → k ∈ list → k < 65536
 are-words file n (Granted count) list left k m =
     ⊎-elim
     (λ signs. let l = signers-are-principals (heads file) (seconds file) (statements file) k (left .are-signers .each k .0 signs) in omega arith)
     (λ old. let z = of-zeros n (of-drop count (replicate n 0) old) in omega arith)
-    (List·Memᴰ·append-cases (left .names) (subst (λ (l : List ℕ). k ∈ l) (left .left) m))
+    (List·Memᴰ·append-cases (left .names) (subst (λ (l : List ℕ). k ∈ l) (left .after-is) m))
 are-words file n (Refused number place) list left k m = let z = of-zeros n (subst (λ (l : List ℕ). k ∈ l) left m) in omega arith
 
 -- ---- the line
@@ -60,8 +60,8 @@ fits-whole before line fits counted is =
 
 pub whole-line : WholeLine
 whole-line file before count after p room =
-    let v : Verdict = recordAnswer file mostStatements in
-    let fits = line-fits v (p .list) (answers-small file mostStatements) (are-words file mostStatements v (p .list) (p .left)) in
+    let v : RecordVerdict = recordAnswer file mostStatements in
+    let fits = line-fits v (p .list) (answers-small file mostStatements) (are-words file mostStatements v (p .list) (p .list-after)) in
     fits-whole before (recordLine v (p .list)) (omega arith) (p .counted) (p .written)
 
 pub whole-exchange-line : WholeExchangeLine

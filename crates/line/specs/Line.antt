@@ -4,8 +4,8 @@ use Prim.Native.Nat.{ℕ}
 use mathlib.Core.List.{List}
 use lib.ListN.{length}
 use lib.Dec.{leb}
-use Rattle.table.specs.Choice.{pick}
-use Rattle.lent.specs.Written.{written}
+use Rattle.basics.specs.Choice.{pick}
+use Rattle.basics.specs.Written.{written}
 
 -- What is written: the whole line from their start, or nothing where it doesn't fit; and how many bytes that is.
 abbrev pub lineAfter : List ℕ → List ℕ → List ℕ

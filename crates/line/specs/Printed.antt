@@ -5,9 +5,9 @@ use Prim.Native.Nat.{ℕ, _≤_}
 use mathlib.Core.Path.{_≡_}
 use mathlib.Core.List.{List, _++_}
 use lib.ListN.{length, drop, replicate}
-use Rattle.table.specs.Limits.{mostStatements}
+use Rattle.basics.specs.Limits.{mostStatements}
 use Rattle.record.specs.Answer.{recordAnswer}
-use Rattle.record.specs.Lent.{Left}
+use Rattle.record.specs.ListAfter.{ListAfter}
 use Rattle.exchange.specs.Answer.{exchangeAnswer}
 use Rattle.line.specs.Line.{lineAfter, lineCount}
 use Rattle.line.specs.RecordLine.{recordLine, mostLine}
@@ -17,7 +17,7 @@ use Rattle.line.specs.ExchangeLine.{exchangeLine}
 pub record Printed (file before : List ℕ) (count : ℕ) (after : List ℕ) : Type 0 where
   -- the 256 words lent for the signers, at the end
   pub list : List ℕ
-  pub left : Left file (recordAnswer file mostStatements) (replicate mostStatements 0) list
+  pub list-after : ListAfter file (recordAnswer file mostStatements) (replicate mostStatements 0) list
   pub counted : count ≡ lineCount before (recordLine (recordAnswer file mostStatements) list)
   pub written : after ≡ lineAfter before (recordLine (recordAnswer file mostStatements) list)
 

@@ -3,12 +3,12 @@
 use Prim.Native.Nat.{ℕ, _≤_, _<_, _+_, _*_}
 use mathlib.Core.List.{List, [], _∷_, _++_}
 use lib.ListN.{length, take}
-use Rattle.logic.specs.Hypotheses.{_∈_}
-use Rattle.table.specs.Limits.{mostStatements}
+use Rattle.basics.specs.Membership.{_∈_}
+use Rattle.basics.specs.Limits.{mostStatements}
 use Rattle.text.specs.Ascii.{ascii}
 use Rattle.text.specs.Decimal.{decimal}
-use Rattle.record.specs.declared.verdict.Verdict.{Verdict}
-use Rattle.record.specs.declared.verdict.Verdict.the-variants.{Granted, Refused}
+use Rattle.record.specs.declared.verdict.RecordVerdict.{RecordVerdict}
+use Rattle.record.specs.declared.verdict.RecordVerdict.the-variants.{Granted, Refused}
 use Rattle.record.specs.Promises.{Small}
 use Rattle.line.specs.RefusedLine.{refusedLine}
 
@@ -18,7 +18,7 @@ listed [] = []
 listed (k ∷ ks) = ascii " " ++ decimal k ++ listed ks
 
 -- the line for an answer; after granted stand the first `count` words of the list that was lent, as far as it goes
-unfoldable pub recordLine : Verdict → List ℕ → List ℕ
+unfoldable pub recordLine : RecordVerdict → List ℕ → List ℕ
 recordLine (Granted count) signers = ascii "granted " ++ decimal count ++ listed (take count signers) ++ ascii "\n"
 recordLine (Refused number place) signers = refusedLine number place
 
@@ -27,4 +27,4 @@ abbrev pub mostLine : ℕ
 mostLine = 8 + 3 + mostStatements * 6 + 1
 
 abbrev pub LineFits : Type 0
-LineFits = (v : Verdict) (signers : List ℕ) → Small v → ((k : ℕ) → k ∈ signers → k < 65536) → length (recordLine v signers) ≤ mostLine
+LineFits = (v : RecordVerdict) (signers : List ℕ) → Small v → ((k : ℕ) → k ∈ signers → k < 65536) → length (recordLine v signers) ≤ mostLine

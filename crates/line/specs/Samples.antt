@@ -6,12 +6,12 @@ use mathlib.Core.Path.{_≡_}
 use mathlib.Core.List.{List, [], _∷_, map}
 use Rattle.text.specs.Ascii.{ascii}
 use Rattle.file.specs.Words.{fileOf}
-use Rattle.record.specs.declared.verdict.Verdict.{Verdict}
-use Rattle.record.specs.declared.verdict.Verdict.the-variants.{Granted, Refused}
+use Rattle.record.specs.declared.verdict.RecordVerdict.{RecordVerdict}
+use Rattle.record.specs.declared.verdict.RecordVerdict.the-variants.{Granted, Refused}
 use Rattle.record.specs.Answer.{recordAnswer}
 use Rattle.record.specs.Samples.{overT}
-use Rattle.exchange.specs.declared.verdict.Verdict.{Verdict as ExchangeVerdict}
-use Rattle.exchange.specs.declared.verdict.Verdict.the-variants.{Equal, Refused as ExchangeRefused}
+use Rattle.exchange.specs.declared.verdict.ExchangeVerdict.{ExchangeVerdict}
+use Rattle.exchange.specs.declared.verdict.ExchangeVerdict.the-variants.{Equal, Refused as ExchangeRefused}
 use Rattle.exchange.specs.Answer.{exchangeAnswer}
 use Rattle.exchange.specs.Samples.{K}
 use Rattle.line.specs.RecordLine.{recordLine}
@@ -23,14 +23,14 @@ pub record Sample : Type 0 where
   pub line : String
 
 -- the row of a record's answer and the lent list, and that of an exchange's answer
-abbrev pub row : Verdict → List ℕ → String → Sample
+abbrev pub row : RecordVerdict → List ℕ → String → Sample
 row answer signers line = record { bytes = recordLine answer signers; line = line }
 
 abbrev pub exchangeRow : ExchangeVerdict → String → Sample
 exchangeRow answer line = record { bytes = exchangeLine answer; line = line }
 
 -- the answer for a record of these words, with a list of 256 words lent, as the program does
-abbrev pub answerOf : List ℕ → Verdict
+abbrev pub answerOf : List ℕ → RecordVerdict
 answerOf words = recordAnswer (fileOf words) 256
 
 -- Of the lent list only the signers are printed, and no blank stands after the last of them, nor after a count of 0.

@@ -5,23 +5,23 @@ ghost use lib.Dec.{leb};
 ghost use lib.ListN.{length, take};
 ghost use Rattle.line.specs.ExchangeLine.{exchangeLine};
 ghost use Rattle.line.specs.Line.{lineAfter, lineCount};
-use exchange::verdict::Verdict;
-use line_parts::measure::is_refused_room;
-use line_parts::refused::fill_refused;
+use crate::measure::is_refused_room;
+use crate::refused::fill_refused;
+use exchange::verdict::ExchangeVerdict;
 use text::fill::fill;
 
 // Whether an answer's line has room: `equal` and its line feed have 6 bytes.
-fn is_room(verdict: Verdict, room: usize) -> bool
+fn is_room(verdict: ExchangeVerdict, room: usize) -> bool
     ensures { λ r. ⌜ r ≡ leb (length (exchangeLine verdict)) room ⌝ }
 {
     match verdict {
-        Verdict::Equal => 6 <= room,
-        Verdict::Refused { number, place } => is_refused_room(number, place, room),
+        ExchangeVerdict::Equal => 6 <= room,
+        ExchangeVerdict::Refused { number, place } => is_refused_room(number, place, room),
     }
 }
 
 // Writes the line for an answer, or nothing where the line doesn't fit, and answers as `write_record_line` does.
-pub fn write_exchange_line(verdict: Verdict, line: &mut [u8]) -> usize
+pub fn write_exchange_line(verdict: ExchangeVerdict, line: &mut [u8]) -> usize
     ensures { λ r. ⌜ r ≡ lineCount (now (line .entry)) (exchangeLine verdict) ⌝ }
     ensures { λ _. ⌜ now (line .exit) ≡ lineAfter (now (line .entry)) (exchangeLine verdict) ⌝ }
     ensures { λ r. ⌜ (r ≤ length (now (line .exit))) × (r ≡ length (take r (now (line .exit)))) ⌝ }
@@ -30,7 +30,7 @@ pub fn write_exchange_line(verdict: Verdict, line: &mut [u8]) -> usize
         return 0;
     }
     match verdict {
-        Verdict::Equal => fill(line, 0, b"equal\n"),
-        Verdict::Refused { number, place } => fill_refused(line, number, place),
+        ExchangeVerdict::Equal => fill(line, 0, b"equal\n"),
+        ExchangeVerdict::Refused { number, place } => fill_refused(line, number, place),
     }
 }

@@ -6,25 +6,25 @@ ghost use lib.Dec.{leb};
 ghost use lib.ListN.{length, take};
 ghost use Rattle.line.specs.Line.{lineAfter, lineCount};
 ghost use Rattle.line.specs.RecordLine.{recordLine};
-use line_parts::granted::fill_granted;
-use line_parts::measure::is_granted_room;
-use line_parts::measure::is_refused_room;
-use line_parts::refused::fill_refused;
-use record::verdict::Verdict;
+use crate::granted::fill_granted;
+use crate::measure::is_granted_room;
+use crate::measure::is_refused_room;
+use crate::refused::fill_refused;
+use record::verdict::RecordVerdict;
 
 // Whether an answer's line has room.
-fn is_room(verdict: Verdict, signers: &[u16], room: usize) -> bool
+fn is_room(verdict: RecordVerdict, signers: &[u16], room: usize) -> bool
     ensures { λ r. ⌜ r ≡ leb (length (recordLine verdict (now (signers .entry)))) room ⌝ }
 {
     match verdict {
-        Verdict::Granted(count) => is_granted_room(count, signers, room),
-        Verdict::Refused { number, place } => is_refused_room(number, place, room),
+        RecordVerdict::Granted(count) => is_granted_room(count, signers, room),
+        RecordVerdict::Refused { number, place } => is_refused_room(number, place, room),
     }
 }
 
 // Writes the line for an answer from the start of lent bytes and gives how many bytes that is, or writes nothing and gives 0 where the line
 // doesn't fit. By the last promise a caller can take `&line[..r]` without a test.
-pub fn write_record_line(verdict: Verdict, signers: &[u16], line: &mut [u8]) -> usize
+pub fn write_record_line(verdict: RecordVerdict, signers: &[u16], line: &mut [u8]) -> usize
     ensures { λ r. ⌜ r ≡ lineCount (now (line .entry)) (recordLine verdict (now (signers .entry))) ⌝ }
     ensures { λ _. ⌜ now (line .exit) ≡ lineAfter (now (line .entry)) (recordLine verdict (now (signers .entry))) ⌝ }
     ensures { λ r. ⌜ (r ≤ length (now (line .exit))) × (r ≡ length (take r (now (line .exit)))) ⌝ }
@@ -33,7 +33,7 @@ pub fn write_record_line(verdict: Verdict, signers: &[u16], line: &mut [u8]) -> 
         return 0;
     }
     match verdict {
-        Verdict::Granted(count) => fill_granted(line, count, signers),
-        Verdict::Refused { number, place } => fill_refused(line, number, place),
+        RecordVerdict::Granted(count) => fill_granted(line, count, signers),
+        RecordVerdict::Refused { number, place } => fill_refused(line, number, place),
     }
 }

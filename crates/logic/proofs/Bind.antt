@@ -4,12 +4,12 @@
 -- Assumes nothing.
 use mathlib.Core.List.{List, _∷_}
 use mathlib.Core.Logic.{_⊎_, inl, inr}
+use Rattle.basics.specs.Membership.{_∈_, _⊆_}
+use Rattle.basics.proofs.Membership.{⊆-refl, ⊆-trans, added}
 use Rattle.logic.specs.Proposition.{Proposition, Principal, atom, false, _implies_, _and_, _or_, _says_}
 use Rattle.logic.specs.Judgment.{Judgment, truth, _affirms_}
-use Rattle.logic.specs.Hypotheses.{_∈_, _⊆_}
 use Rattle.logic.specs.Principals.{Relation, Transitive}
 use Rattle.logic.specs.Derivation.{Derivation, init, affirm, implies-right, implies-left, false-left, and-right, and-left, or-right-first, or-right-second, or-left, says-right, says-left}
-use Rattle.logic.proofs.Hypotheses.{⊆-refl, ⊆-trans, added}
 
 module _ (R : Relation) where
   -- what the right rule of a judgment is given

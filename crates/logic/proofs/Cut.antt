@@ -7,13 +7,13 @@
 use mathlib.Core.Path.{sym, subst}
 use mathlib.Core.Logic.{⊎-elim}
 use mathlib.Core.List.{List, _∷_, List·Memᴰ·cases-cons}
+use Rattle.basics.specs.Membership.{_∈_, _⊆_}
+use Rattle.basics.proofs.Membership.{⊆-refl, ⊆-trans, added, extend, exchange}
 use Rattle.logic.specs.Proposition.{Proposition, Principal, atom, false, _implies_, _and_, _or_, _says_}
 use Rattle.logic.specs.Judgment.{Judgment, truth, _affirms_}
-use Rattle.logic.specs.Hypotheses.{_∈_, _⊆_}
 use Rattle.logic.specs.Principals.{Relation, Reflexive, Transitive}
 use Rattle.logic.specs.Derivation.{Derivation, init, affirm, implies-right, implies-left, false-left, and-right, and-left, or-right-first, or-right-second, or-left, says-right, says-left}
 use Rattle.logic.specs.Cut.{CutAt, Cut, AffirmationCut}
-use Rattle.logic.proofs.Hypotheses.{⊆-refl, ⊆-trans, added, extend, exchange}
 use Rattle.logic.proofs.Structural.{weaken}
 use Rattle.logic.proofs.Bind.{bind}
 

@@ -4,13 +4,13 @@ use Prim.Native.Nat.{ℕ, suc, max, _+_, _≤_, _<_}
 use native.Mathlib.Omega.{arith}
 use mathlib.Core.Logic.{⊎-elim}
 use mathlib.Core.List.{List, [], _∷_, _++_, List·Memᴰ·append-cases, List·Memᴰ·cases-cons, List·Memᴰ·not-nil}
+use Rattle.basics.specs.Membership.{_∈_}
+use Rattle.basics.proofs.Membership.{first, added, ⊆-left, ⊆-right}
 use Rattle.logic.specs.Proposition.{Proposition}
 use Rattle.logic.specs.Judgment.{Judgment}
-use Rattle.logic.specs.Hypotheses.{_∈_}
 use Rattle.logic.specs.Principals.{Relation}
 use Rattle.logic.specs.Derivation.{Derivation, init, affirm, implies-right, implies-left, false-left, and-right, and-left, or-right-first, or-right-second, or-left, says-right, says-left}
 use Rattle.logic.specs.Depth.{depth, stepDepths, DepthOfSteps}
-use Rattle.logic.proofs.Hypotheses.{first, added, ⊆-left, ⊆-right}
 
 abbrev AtMost : ℕ → List ℕ → Type 0
 AtMost n l = (d : ℕ) → d ∈ l → d ≤ n

@@ -3,12 +3,12 @@
 use mathlib.Core.Path.{sym, subst}
 use mathlib.Core.Logic.{⊎-elim}
 use mathlib.Core.List.{List, [], _∷_, _++_, List·Memᴰ·head, List·Memᴰ·tail, List·Memᴰ·not-nil, List·Memᴰ·append-cases}
+use Rattle.basics.proofs.Membership.{first, added, ⊆-left, ⊆-right}
 use Rattle.logic.specs.Proposition.{Proposition}
 use Rattle.logic.specs.Judgment.{Judgment}
 use Rattle.logic.specs.Principals.{Relation, Reflexive, Transitive}
 use Rattle.logic.specs.Derivation.{Derivation}
 use Rattle.logic.specs.Force.{HasProof, EachHasProof, ForceByStatements, ForceJoined, ReleaseKept, AnyReleaseKept}
-use Rattle.logic.proofs.Hypotheses.{first, added, ⊆-left, ⊆-right}
 use Rattle.logic.proofs.Structural.{weaken}
 use Rattle.logic.proofs.Identity.{identity}
 use Rattle.logic.proofs.Cut.{cut}

@@ -1,11 +1,11 @@
 -- Identity (003, Theorem 2, part 2), by recursion on the proposition: take it apart by its left rule, put it together by its right rule.
 -- For every reflexive relation on principals. Assumes nothing.
 use mathlib.Core.List.{_∷_}
+use Rattle.basics.proofs.Membership.{first, second, added}
 use Rattle.logic.specs.Proposition.{atom, false, _implies_, _and_, _or_, _says_}
 use Rattle.logic.specs.Principals.{Relation, Reflexive}
 use Rattle.logic.specs.Derivation.{init, affirm, implies-right, implies-left, false-left, and-right, and-left, or-right-first, or-right-second, or-left, says-right, says-left}
 use Rattle.logic.specs.Cut.{Identity}
-use Rattle.logic.proofs.Hypotheses.{first, second, added}
 
 module _ {R : Relation} (reflexive : Reflexive R) where
   pub identity : Identity R

@@ -1,11 +1,11 @@
 -- 01's samples over propositions. The derivations are those of its step words. Assumes nothing.
 use native.Mathlib.Omega.{arith}
 use mathlib.Core.Path.{refl}
+use Rattle.basics.proofs.Membership.{first, second}
 use Rattle.logic.specs.Derivation.{init, affirm, and-right, and-left, says-right, says-left}
 use Rattle.logic.specs.Figure1.{Same}
 use Rattle.logic.specs.Samples.{SampleA, SampleB, SampleC, SampleD, SampleF, SampleK, FirstPremiseFirst}
 use Rattle.logic.specs.Misreadings.{Anybody, OtherThan}
-use Rattle.logic.proofs.Hypotheses.{first, second}
 use Rattle.logic.proofs.FromSigned.{none-signed, one-signed, from-signed}
 use Rattle.logic.proofs.Force.{each-nil, each-cons}
 use Rattle.logic.proofs.Figure1.{figure1}

@@ -1,10 +1,10 @@
 -- The six formulas of 003, section 2.2. Assumes nothing.
 use mathlib.Core.Path.{refl}
+use Rattle.basics.proofs.Membership.{first, second}
 use Rattle.logic.specs.Derivation.{affirm, implies-right, implies-left, says-right, says-left}
 use Rattle.logic.specs.Figure1.{Same}
 use Rattle.logic.specs.Says.{TruthIsSaid, SaysDistributes, SaysTwiceIsSays, SaidIsNotTrue, SaidFalseIsNotFalse, SaidIsNotSaidByAnother}
 use Rattle.logic.specs.Misreadings.{Anybody, OtherThan}
-use Rattle.logic.proofs.Hypotheses.{first, second}
 use Rattle.logic.proofs.FromSigned.{none-signed, from-signed}
 use Rattle.logic.proofs.Figure1.{figure1}
 

@@ -1,10 +1,10 @@
 -- What says left allows: K's word on an atom serves an affirmation by L exactly when K speaks for L. Assumes nothing.
 use mathlib.Core.Path.{_≡_, refl, subst}
+use Rattle.basics.proofs.Membership.{first}
 use Rattle.logic.specs.Proposition.{Principal}
 use Rattle.logic.specs.Principals.{Relation}
 use Rattle.logic.specs.Derivation.{init, affirm, says-left}
 use Rattle.logic.specs.SaysLeft.{SaysServes}
-use Rattle.logic.proofs.Hypotheses.{first}
 use Rattle.logic.proofs.FromSigned.{one-signed, from-signed}
 
 module _ {R : Relation} where

@@ -3,14 +3,14 @@
 use Prim.Native.Nat.{suc, max}
 use mathlib.Core.Path.{_≡_, refl, ap, ap₂, _∙_}
 use mathlib.Core.List.{List, _∷_, _++_}
+use Rattle.basics.specs.Membership.{_⊆_}
+use Rattle.basics.proofs.Membership.{extend, inserted, repeated}
 use Rattle.logic.specs.Proposition.{Proposition}
 use Rattle.logic.specs.Judgment.{Judgment}
-use Rattle.logic.specs.Hypotheses.{_⊆_}
 use Rattle.logic.specs.Principals.{Relation}
 use Rattle.logic.specs.Derivation.{Derivation, init, affirm, implies-right, implies-left, false-left, and-right, and-left, or-right-first, or-right-second, or-left, says-right, says-left}
 use Rattle.logic.specs.Depth.{depth}
 use Rattle.logic.specs.Structural.{Weakening, OneSet, TwiceIsOnce}
-use Rattle.logic.proofs.Hypotheses.{extend, inserted, repeated}
 
 module _ {R : Relation} where
   -- the same steps, from more hypotheses

@@ -4,9 +4,9 @@ use Prim.Native.Nat.{ℕ, suc, max, _≤_}
 use mathlib.Core.Path.{_≡_}
 use mathlib.Core.Logic.{_↔_}
 use mathlib.Core.List.{List, [], _∷_, _++_}
+use Rattle.basics.specs.Membership.{_∈_}
 use Rattle.logic.specs.Proposition.{Proposition}
 use Rattle.logic.specs.Judgment.{Judgment}
-use Rattle.logic.specs.Hypotheses.{_∈_}
 use Rattle.logic.specs.Principals.{Relation}
 use Rattle.logic.specs.Derivation.{Derivation, init, affirm, implies-right, implies-left, false-left, and-right, and-left, or-right-first, or-right-second, or-left, says-right, says-left}
 

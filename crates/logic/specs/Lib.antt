@@ -2,7 +2,6 @@
 -- statements of theorems, to be read in this order. The proofs are in proofs/.
 pub mod Proposition
 pub mod Judgment
-pub mod Hypotheses
 pub mod Principals
 pub mod Derivation
 pub mod Depth

@@ -2,9 +2,9 @@
 -- alone, however many they are and whatever they say. Proved in proofs/Misreadings.antt. Assumes nothing.
 use mathlib.Core.List.{List, [], _∷_, _++_}
 use mathlib.Core.Logic.{_≢_}
+use Rattle.basics.specs.Membership.{_∈_}
 use Rattle.logic.specs.Proposition.{Proposition, Atom, Principal, atom, false, _implies_, _and_, _or_, _says_}
 use Rattle.logic.specs.Judgment.{_affirms_}
-use Rattle.logic.specs.Hypotheses.{_∈_}
 use Rattle.logic.specs.Figure1.{Derivation, HasProof, EqualInForce}
 
 -- The statement is signed: it is K says something, and P holds of its signer K.

@@ -3,9 +3,9 @@
 use mathlib.Core.Path.{_≡_}
 use mathlib.Core.List.{List}
 use mathlib.Core.Logic.{_↔_, _⊎_}
+use Rattle.basics.specs.Membership.{_∈_}
 use Rattle.logic.specs.Proposition.{Proposition, Atom, atom, false}
 use Rattle.logic.specs.Judgment.{Judgment, truth}
-use Rattle.logic.specs.Hypotheses.{_∈_}
 use Rattle.logic.specs.Principals.{Relation}
 use Rattle.logic.specs.Depth.{DerivationOfDepth}
 

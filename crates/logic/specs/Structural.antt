@@ -2,9 +2,9 @@
 use Prim.Native.Nat.{ℕ}
 use mathlib.Core.List.{List, _∷_, _++_}
 use mathlib.Core.Logic.{_↔_}
+use Rattle.basics.specs.Membership.{_∈_, _⊆_}
 use Rattle.logic.specs.Proposition.{Proposition}
 use Rattle.logic.specs.Judgment.{Judgment}
-use Rattle.logic.specs.Hypotheses.{_∈_, _⊆_}
 use Rattle.logic.specs.Principals.{Relation}
 use Rattle.logic.specs.Depth.{DerivationOfDepth}
 

@@ -5,19 +5,19 @@ use mathlib.Core.Path.{_≡_, refl, sym, subst, _∙_}
 use mathlib.Core.Logic.{_↔_}
 use mathlib.Core.List.{List, [], _∷_, append-nil, List·Memᴰ·eq-of-singleton}
 use lib.ListN.{length}
-use Rattle.logic.specs.Hypotheses.{_∈_}
-use Rattle.table.specs.declared.check.Tested.the-variants.{Passed}
+use Rattle.basics.specs.Membership.{_∈_}
+use Rattle.basics.specs.declared.tested.Tested.the-variants.{Passed}
 use Rattle.table.specs.Number.{number}
 use Rattle.table.specs.Tests.{tableTests}
 use Rattle.table.proofs.Answers.{passed}
 use Rattle.table.proofs.Ordered.{no-fault-ordered}
-use Rattle.steps.specs.declared.verdict.Verdict.the-variants.{Closed}
-use Rattle.steps.specs.Obligation.{Obligation, due}
+use Rattle.table.proofs.Unlike.{not-repeated}
+use Rattle.steps.specs.declared.verdict.WalkVerdict.the-variants.{Closed}
+use Rattle.steps.specs.Obligation.{Obligation, obligation}
 use Rattle.steps.specs.Words.{words}
 use Rattle.steps.specs.Carried.{InTable}
 use Rattle.steps.specs.Figure1.{Carried}
 use Rattle.steps.proofs.Figure1.{runs-are-derivations}
-use Rattle.file.proofs.Unlike.{not-repeated}
 use Rattle.record.specs.Layout.{goal, heads, seconds, statements, steps, table}
 use Rattle.record.specs.Answer.{stepVerdict}
 use Rattle.record.specs.Proof.{Keeps, IsProof}
@@ -25,7 +25,7 @@ use Rattle.record.proofs.Lengths.{length-table, sized-table}
 
 module _ (file : List ℕ) where
   -- A derivation whose words are the steps, and nothing after them.
-  is-carried : Carried (table file) (due (statements file) (goal file) ∷ []) (steps file) ↔ IsProof file
+  is-carried : Carried (table file) (obligation (statements file) (goal file) ∷ []) (steps file) ↔ IsProof file
   is-carried = (
     λ (rest, (proved, none)). record {
       derivation = proved .derivation;
@@ -44,7 +44,7 @@ module _ (file : List ℕ) where
         (not-repeated (heads file) (seconds file) .1 (keeps .none-repeated))
 
     -- and all numbers are in it.
-    in-table : (o : Obligation) → o ∈ due (statements file) (goal file) ∷ [] → InTable (table file) o
+    in-table : (o : Obligation) → o ∈ obligation (statements file) (goal file) ∷ [] → InTable (table file) o
     in-table o m =
         let sized = length-table file (keeps .sized) in
         subst (InTable (table file)) (sym (List·Memᴰ·eq-of-singleton m)) record {
@@ -54,5 +54,5 @@ module _ (file : List ℕ) where
 
     pub closes-on-proof : stepVerdict file ≡ Closed (length (steps file)) ↔ IsProof file
     closes-on-proof =
-        let (to, from) = runs-are-derivations (heads file) (seconds file) table-passes (due (statements file) (goal file) ∷ []) in-table (steps file) in
+        let (to, from) = runs-are-derivations (heads file) (seconds file) table-passes (obligation (statements file) (goal file) ∷ []) in-table (steps file) in
         (λ e. is-carried .0 (to e), λ p. from (is-carried .1 p))

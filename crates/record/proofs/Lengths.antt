@@ -1,47 +1,25 @@
 -- How long the parts of a file are: where the sizes fit its length, each is as long as its size says. Assumes nothing.
-use Prim.Native.Nat.{ℕ, _+_, _*_, _≤_}
-use native.Mathlib.Omega.{arith}
-use mathlib.Core.Bool.{true}
+use Prim.Native.Nat.{ℕ}
 use mathlib.Core.List.{List}
-use mathlib.Core.Path.{_≡_, sym, _∙_}
+use mathlib.Core.Path.{_≡_}
 use lib.ListN.{length}
-use Rattle.table.specs.Limits.{mostFormulas}
-use Rattle.table.specs.Tests.{sized}
-use Rattle.table.proofs.Entries.{length-entries, length-entries-equal}
-use Rattle.file.specs.Words.{fileWords}
-use Rattle.file.proofs.FileWords.{half-as-many}
-use Rattle.file.proofs.Parts.{part-at-most, part-whole}
-use Rattle.file.proofs.Asked.{at-most, equal, both-are}
-use Rattle.record.specs.Layout.{formulas, statementCount, stepCount, heads, seconds, table}
+use Rattle.file.proofs.LayoutLaws.{length-part}
+use Rattle.table.specs.Tests.{SizedTable}
+use Rattle.table.proofs.TableTests as Table
+use Rattle.record.specs.Layout.{recordLayout, formulas, heads, seconds, table}
 use Rattle.record.specs.Proof.{Sized}
+use Rattle.record.proofs.LayoutIs.{sized}
 
-module _ (file : List ℕ) where
-  -- ---- of any file
+module _ (file : List ℕ) (s : Sized file) where
+  pub length-heads : length (heads file) ≡ formulas file
+  length-heads = length-part recordLayout file (sized file .1 s) 0
 
-  -- The table has F entries at most.
-  pub table-at-most : length (table file) ≤ formulas file
-  table-at-most = omega (arith, length-entries (heads file) (seconds file), part-at-most file 4 (formulas file))
+  pub length-seconds : length (seconds file) ≡ formulas file
+  length-seconds = length-part recordLayout file (sized file .1 s) 1
 
-  -- ---- of a file that has the length of its sizes
+  pub length-table : length (table file) ≡ formulas file
+  length-table = Table.length-table (heads file) (seconds file) length-heads length-seconds
 
-  module _ (keeps-size : Sized file) where
-    pub length-words : length (fileWords file) ≡ 4 + 2 * formulas file + statementCount file + stepCount file
-    length-words = let is = keeps-size .length-is in omega (arith, half-as-many file)
-
-    pub length-heads : length (heads file) ≡ formulas file
-    length-heads = part-whole file 4 (formulas file) (omega (arith, length-words))
-
-    pub length-seconds : length (seconds file) ≡ formulas file
-    length-seconds = part-whole file (4 + formulas file) (formulas file) (omega (arith, length-words))
-
-    pub length-table : length (table file) ≡ formulas file
-    length-table = length-entries-equal (heads file) (seconds file) (length-heads ∙ sym length-seconds) ∙ length-heads
-
-    -- so the table has a size that 2 allows
-    pub sized-table : sized (heads file) (seconds file) ≡ true
-    sized-table =
-        let some = keeps-size .in-range .some-formulas in
-        let few = keeps-size .in-range .few-formulas in
-        let alike = equal (length (heads file)) (length (seconds file)) in
-        let range = both-are (at-most 1 (length (heads file))) (at-most (length (heads file)) mostFormulas) in
-        both-are alike range .1 (length-heads ∙ sym length-seconds, (omega (arith, length-heads), omega (arith, length-heads)))
+  -- The table has a size that 2 allows.
+  pub sized-table : SizedTable (heads file) (seconds file)
+  sized-table = Table.sized-table (heads file) (seconds file) length-heads length-seconds (s .in-range .some-formulas) (s .in-range .few-formulas)

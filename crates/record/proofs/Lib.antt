@@ -1,11 +1,11 @@
 -- The theorems whose statements are in specs/, and the lemmas behind them.
+pub mod LayoutIs
 pub mod Lengths
 pub mod Keeps
 pub mod Answered
 pub mod IsProof
 pub mod Granted
 pub mod Reasons
-pub mod Refused
 pub mod Small
 pub mod Longer
 pub mod SameSet

@@ -1,55 +1,54 @@
--- The reasons to refuse a file are tests 1 to 8, where they apply, and the machine's refusals (specs/Reasons.antt). Assumes nothing.
+-- The reasons to refuse a file (specs/Reasons.antt) are the tests, where they apply; so a file is refused exactly by the reason that stands first in the
+-- checking order (specs/Promises.antt, `RefusedExactly`). Assumes nothing.
 use Prim.Native.Nat.{ℕ, _≤_, _<_}
-use mathlib.Core.Bool.{not}
-use mathlib.Core.Path.{_≡_, sym}
-use mathlib.Core.Logic.{_↔_, _⊎_, inl, inr, ⊎-elim}
+use mathlib.Core.Path.{_≡_, refl, sym}
+use mathlib.Core.Logic.{_↔_, Iff·trans, _⊎_, inl, inr, ⊎-elim}
 use mathlib.Core.List.{List, [], _∷_}
 use lib.ListN.{length, getD}
 use lib.Dec.{leb}
-use Rattle.table.specs.declared.place.Place.the-variants.{At}
-use Rattle.table.specs.First.{first, found, IsFirst}
-use Rattle.table.specs.Tests.{entryAt, right, same, wrongEntry, repeatedEntry}
-use Rattle.table.proofs.First.{first-place}
-use Rattle.steps.specs.declared.verdict.Verdict.the-variants as Steps
-use Rattle.steps.specs.Obligation.{due}
+use Rattle.basics.specs.declared.place.Place.the-variants.{At}
+use Rattle.basics.specs.Membership.{_∈_}
+use Rattle.basics.specs.First.{IsFirst}
+use Rattle.basics.specs.Refusals.{Test, test}
+use Rattle.basics.specs.Order.{checkingOrder}
+use Rattle.basics.proofs.First.{first-place}
+use Rattle.basics.proofs.Asked.{less, at-most, at0-at}
+use Rattle.basics.proofs.Order.{OneApplies, one-of-three, Follows, applying-in, refused-in-order, is-distinct}
+use Rattle.file.specs.Layout.{layoutTests}
+use Rattle.file.proofs.Reasons.{layout-reasons}
+use Rattle.table.specs.Tests.{entryTests}
+use Rattle.table.proofs.Reasons.{entry-reasons}
+use Rattle.steps.specs.declared.verdict.WalkVerdict.the-variants as Walk
+use Rattle.steps.specs.Obligation.{obligation}
+use Rattle.steps.specs.Run.{walked}
 use Rattle.steps.specs.Figure1.{Stop}
-use Rattle.steps.proofs.Figure1.{refused-where}
-use Rattle.file.specs.Tests.{tooShort}
-use Rattle.record.specs.Layout.{formulas, goal, heads, seconds, statements, steps, size, table, signers}
-use Rattle.record.specs.Answer.{sizeOutside, otherLength, goalOutside, statementOutside, listShort, tests, stepVerdict}
-use Rattle.record.specs.Proof.{InRange}
-use Rattle.record.specs.Reasons.{Reason, fewer-than-8-bytes, size-outside, other-length, wrong-entry, repeated-entry, goal-outside, statement-outside, list-short, stops}
-use Rattle.file.proofs.Asked.{less, at-most, equal, other, at0-at}
-use Rattle.record.proofs.Keeps.{in-range}
-use Rattle.file.proofs.InOrder.{Some}
+use Rattle.steps.proofs.Walked.{walked-applies, walked-follows}
+use Rattle.steps.proofs.Figure1.{refused-where, refused-in-range}
+use Rattle.record.specs.Layout.{recordLayout, formulas, goal, heads, seconds, statements, steps, table, signers}
+use Rattle.record.specs.Answer.{goalOutside, statementOutside, listShort, tests, stepVerdict}
+use Rattle.record.specs.Reasons.{Reason, layout-broken, entry-wrong, goal-outside, statement-outside, list-short, stops}
+use Rattle.record.specs.Promises.{RefusedExactly}
+use Rattle.record.proofs.LayoutIs.{in-range}
+use Rattle.record.proofs.Answered.{answer-refused}
 
--- 9 to 15: the machine refuses where the walk stops.
-pub walked :
-    (file : List ℕ) (number p : ℕ)
-    → stepVerdict file ≡ Steps.Refused number p ↔ Stop (table file) (steps file) (due (statements file) (goal file) ∷ []) number p
-walked file number p = refused-where (table file) (steps file) (due (statements file) (goal file) ∷ []) number p
+-- ---- 9 to 15
+
+module _ (file : List ℕ) (number p : ℕ) where
+  -- The machine refuses where the walk stops,
+  walk-stops : stepVerdict file ≡ Walk.Refused number p ↔ Stop (table file) (steps file) (obligation (statements file) (goal file) ∷ []) number p
+  walk-stops = refused-where (table file) (steps file) (obligation (statements file) (goal file) ∷ []) number p
+
+  -- by 9 to 15.
+  step-number : stepVerdict file ≡ Walk.Refused number p → (9 ≤ number) × (number ≤ 15) × (p ≤ length (steps file))
+  step-number = refused-in-range (table file) (steps file) (obligation (statements file) (goal file) ∷ []) number p
+
+  pub stop-small :
+      Stop (table file) (steps file) (obligation (statements file) (goal file) ∷ []) number p → (9 ≤ number) × (number ≤ 15) × (p ≤ length (steps file))
+  stop-small s = step-number (walk-stops .1 s)
+
+-- ---- all of them
 
 module _ (file : List ℕ) (room number p : ℕ) where
-  -- ---- each test by what its reason says
-
-  one : tooShort file ≡ At p ↔ ((p ≡ 0) × (length file < 8))
-  one = at0-at _ p (less (length file) 8)
-
-  two : sizeOutside file ≡ At p ↔ ((p ≡ 0) × ¬ InRange file)
-  two = at0-at _ p (other _ (in-range file))
-
-  three : otherLength file ≡ At p ↔ ((p ≡ 0) × ¬ (length file ≡ size file))
-  three = at0-at _ p (other _ (equal (length file) (size file)))
-
-  four : wrongEntry (table file) ≡ At p ↔ IsFirst (λ i. not (right i (entryAt (table file) i))) (length (table file)) p
-  unfolding wrongEntry
-  four = first-place _ _ p
-
-  five : repeatedEntry (heads file) (seconds file) ≡ At p
-      ↔ IsFirst (λ i. found (first (same (heads file) (seconds file) i) i)) (length (heads file)) p
-  unfolding repeatedEntry
-  five = first-place _ _ p
-
   six : goalOutside file ≡ At p ↔ ((p ≡ 0) × (formulas file ≤ goal file))
   six = at0-at _ p (at-most (formulas file) (goal file))
 
@@ -59,29 +58,53 @@ module _ (file : List ℕ) (room number p : ℕ) where
   eight : listShort file room ≡ At p ↔ ((p ≡ 0) × (room < length (signers file)))
   eight = at0-at _ p (less room (length (signers file)))
 
-  -- ---- all of them
+  -- the tests from 6 on, and all
+  abbrev from-6 : List Test
+  from-6 = test 6 (goalOutside file) ∷ test 7 (statementOutside file) ∷ test 8 (listShort file room) ∷ walked (stepVerdict file) ∷ []
 
-  from-reason : Reason file room number p → Some (tests file room) number p ⊎ (stepVerdict file ≡ Steps.Refused number p)
-  from-reason (fewer-than-8-bytes n z l) = inl (inl (sym n, one .1 (z, l)))
-  from-reason (size-outside n z outside) = inl (inr (inl (sym n, two .1 (z, outside))))
-  from-reason (other-length n z differs) = inl (inr (inr (inl (sym n, three .1 (z, differs)))))
-  from-reason (wrong-entry n is) = inl (inr (inr (inr (inl (sym n, four .1 is)))))
-  from-reason (repeated-entry n is) = inl (inr (inr (inr (inr (inl (sym n, five .1 is))))))
-  from-reason (goal-outside n z l) = inl (inr (inr (inr (inr (inr (inl (sym n, six .1 (z, l))))))))
-  from-reason (statement-outside n is) = inl (inr (inr (inr (inr (inr (inr (inl (sym n, seven .1 is))))))))
-  from-reason (list-short n z l) = inl (inr (inr (inr (inr (inr (inr (inr (inl (sym n, eight .1 (z, l))))))))))
-  from-reason (stops s) = inr (walked file number p .1 s)
+  joined :
+      OneApplies (tests file room) number p
+      ↔ (OneApplies (layoutTests recordLayout file) number p ⊎ (OneApplies (entryTests (heads file) (seconds file)) number p ⊎ OneApplies from-6 number p))
+  joined = one-of-three (layoutTests recordLayout file) (entryTests (heads file) (seconds file)) from-6 number p
 
-  to-reason : Some (tests file room) number p → Reason file room number p
-  to-reason (inl (n, at)) = let (z, l) = one .0 at in fewer-than-8-bytes (sym n) z l
-  to-reason (inr (inl (n, at))) = let (z, outside) = two .0 at in size-outside (sym n) z outside
-  to-reason (inr (inr (inl (n, at)))) = let (z, differs) = three .0 at in other-length (sym n) z differs
-  to-reason (inr (inr (inr (inl (n, at))))) = wrong-entry (sym n) (four .0 at)
-  to-reason (inr (inr (inr (inr (inl (n, at)))))) = repeated-entry (sym n) (five .0 at)
-  to-reason (inr (inr (inr (inr (inr (inl (n, at))))))) = let (z, l) = six .0 at in goal-outside (sym n) z l
-  to-reason (inr (inr (inr (inr (inr (inr (inl (n, at)))))))) = statement-outside (sym n) (seven .0 at)
-  to-reason (inr (inr (inr (inr (inr (inr (inr (inl (n, at))))))))) = let (z, l) = eight .0 at in list-short (sym n) z l
-  to-reason (inr (inr (inr (inr (inr (inr (inr (inr none)))))))) = absurd none
+  later : OneApplies from-6 number p → OneApplies (tests file room) number p
+  later one = joined .1 (inr (inr one))
 
-  pub reasons : Reason file room number p ↔ Some (tests file room) number p ⊎ (stepVerdict file ≡ Steps.Refused number p)
-  reasons = (from-reason, ⊎-elim to-reason (λ e. stops (walked file number p .0 e)))
+  from-reason : Reason file room number p → OneApplies (tests file room) number p
+  from-reason (layout-broken r) = joined .1 (inl (layout-reasons recordLayout file (in-range file) number p .0 r))
+  from-reason (entry-wrong r) = joined .1 (inr (inl (entry-reasons (heads file) (seconds file) number p .0 r)))
+  from-reason (goal-outside n z l) = later (inl (sym n, six .1 (z, l)))
+  from-reason (statement-outside n is) = later (inr (inl (sym n, seven .1 is)))
+  from-reason (list-short n z l) = later (inr (inr (inl (sym n, eight .1 (z, l)))))
+  from-reason (stops s) = later (inr (inr (inr (walked-applies (stepVerdict file) number p .1 (walk-stops file number p .1 s)))))
+
+  from-6-reason : OneApplies from-6 number p → Reason file room number p
+  from-6-reason (inl (n, at)) = let (z, l) = six .0 at in goal-outside (sym n) z l
+  from-6-reason (inr (inl (n, at))) = statement-outside (sym n) (seven .0 at)
+  from-6-reason (inr (inr (inl (n, at)))) = let (z, l) = eight .0 at in list-short (sym n) z l
+  from-6-reason (inr (inr (inr walk))) = stops (walk-stops file number p .0 (walked-applies (stepVerdict file) number p .0 walk))
+
+  to-reason : OneApplies (tests file room) number p → Reason file room number p
+  to-reason one =
+      ⊎-elim (λ h. layout-broken (layout-reasons recordLayout file (in-range file) number p .1 h))
+      (⊎-elim (λ h. entry-wrong (entry-reasons (heads file) (seconds file) number p .1 h)) from-6-reason)
+      (joined .0 one)
+
+  reasons : Reason file room number p ↔ OneApplies (tests file room) number p
+  reasons = (from-reason, to-reason)
+
+-- The tests stand in the checking order.
+follows : (file : List ℕ) (room : ℕ) → Follows checkingOrder (tests file room)
+follows file room =
+    let range : (n p : ℕ) → stepVerdict file ≡ Walk.Refused n p → (9 ≤ n) × (n ≤ 15) = λ n p e. let (l, m, _) = step-number file n p e in (l, m) in
+    let from-9 = walked-follows (stepVerdict file) range in
+    inl (refl, inl (refl, inl (refl, inl (refl, inl (refl, inl (refl, inl (refl, inl (refl, from-9))))))))
+
+-- A reason's number is one of it.
+pub reason-in : (file : List ℕ) (room number p : ℕ) → Reason file room number p → number ∈ checkingOrder
+reason-in file room number p r = applying-in checkingOrder (tests file room) number p (follows file room) (from-reason file room number p r)
+
+pub refused-exactly : RefusedExactly
+refused-exactly file room number p =
+    Iff·trans (answer-refused file room number p)
+    (refused-in-order checkingOrder is-distinct (tests file room) (follows file room) (Reason file room) (reasons file room) number p)

@@ -5,26 +5,26 @@ use mathlib.Core.Path.{_≡_, refl, sym, ap, ap₂, subst, _∙_}
 use mathlib.Core.Logic.{_↔_, Iff·symm}
 use mathlib.Core.List.{List, [], _∷_}
 use lib.ListN.{length}
-use Rattle.logic.specs.Hypotheses.{_∈_}
+use Rattle.basics.specs.Membership.{_∈_}
+use Rattle.basics.specs.Refusals.{test}
+use Rattle.file.proofs.Outside.{none-outside}
 use Rattle.table.specs.declared.entry.Entry.{Entry}
 use Rattle.table.specs.Entry.{formula}
 use Rattle.table.specs.Tests.{entries, wrongEntry, repeatedEntry}
 use Rattle.steps.specs.declared.goal.Goal.the-variants.{True}
 use Rattle.steps.specs.Alike.{Alike}
-use Rattle.steps.specs.Obligation.{due}
+use Rattle.steps.specs.Obligation.{obligation}
+use Rattle.steps.specs.Run.{walked}
 use Rattle.steps.specs.Figure1.{run}
 use Rattle.steps.proofs.Figure1.{hypotheses-are-a-set}
-use Rattle.file.specs.Refusals.{test}
-use Rattle.file.specs.Tests.{tooShort}
-use Rattle.file.proofs.Outside.{none-outside}
 use Rattle.signers.specs.Each.{AreSigners}
 use Rattle.signers.proofs.Each.{signers-are, one-count, same-signers}
 use Rattle.record.specs.Layout.{formulas, goal, statements, steps, table, signers}
-use Rattle.record.specs.Answer.{sizeOutside, otherLength, goalOutside, statementOutside, listShort, tests, stepVerdict, recordAnswer}
+use Rattle.record.specs.Answer.{goalOutside, statementOutside, listShort, tests, stepVerdict, recordAnswer}
 use Rattle.record.specs.Proof.{Sized}
 use Rattle.record.specs.Promises.{SameSet, StatementsAreASet, StatedTwice}
 use Rattle.record.proofs.Lengths.{length-heads}
-use Rattle.record.proofs.Keeps.{sized}
+use Rattle.record.proofs.Keeps.{none-to-3-is}
 use Rattle.record.proofs.Granted.{granted-exactly}
 
 -- The other way round.
@@ -52,13 +52,13 @@ module _ (file other : List ℕ) (s : SameSet file other) where
   same-count = one-count (table other) (statements other) (signers file) (same-names (signers file) .0 (signers-are (table file) (statements file)))
 
   -- and the machine comes to the same.
-  same-due : Alike (due (statements file) (goal file)) (due (statements other) (goal other))
-  same-due = record { same-goal = ap (λ (n : ℕ). True (formula n)) (s .same-goal); same-depth = refl; same-set = s .same-statements }
+  same-obligation : Alike (obligation (statements file) (goal file)) (obligation (statements other) (goal other))
+  same-obligation = record { same-goal = ap (λ (n : ℕ). True (formula n)) (s .same-goal); same-depth = refl; same-set = s .same-statements }
 
   same-verdict : stepVerdict file ≡ stepVerdict other
   same-verdict =
-      hypotheses-are-a-set (table file) _ _ same-due (steps file)
-      ∙ ap₂ (λ (es : List Entry) (ws : List ℕ). run es ws (due (statements other) (goal other) ∷ [])) same-table (s .same-steps)
+      hypotheses-are-a-set (table file) _ _ same-obligation (steps file)
+      ∙ ap₂ (λ (es : List Entry) (ws : List ℕ). run es ws (obligation (statements other) (goal other) ∷ [])) same-table (s .same-steps)
 
   module _ (fits : Sized file) (fits′ : Sized other) (below : (n : ℕ) → n ∈ statements file → n < formulas file) (room : ℕ) where
     -- Their tables are as long, and 7 doesn't apply to the other either.
@@ -71,11 +71,11 @@ module _ (file other : List ℕ) (s : SameSet file other) where
     -- 1 to 3 and 7 don't apply to either, and the others look at what is the same.
     same-tests : tests file room ≡ tests other room
     same-tests =
-        let (one, (two, (three, _))) = sized file .1 fits in
-        let (one′, (two′, (three′, _))) = sized other .1 fits′ in
-        let first : tooShort file ≡ tooShort other = one ∙ sym one′ in
-        let second : sizeOutside file ≡ sizeOutside other = two ∙ sym two′ in
-        let third : otherLength file ≡ otherLength other = three ∙ sym three′ in
+        let (one, (two, (three, _))) = none-to-3-is file .1 fits in
+        let (one′, (two′, (three′, _))) = none-to-3-is other .1 fits′ in
+        let first = one ∙ sym one′ in
+        let second = two ∙ sym two′ in
+        let third = three ∙ sym three′ in
         let fourth : wrongEntry (table file) ≡ wrongEntry (table other) = ap wrongEntry same-table in
         let fifth = ap₂ repeatedEntry (s .same-heads) (s .same-seconds) in
         let sixth : goalOutside file ≡ goalOutside other = cc (same-formulas, s .same-goal) in
@@ -83,11 +83,11 @@ module _ (file other : List ℕ) (s : SameSet file other) where
         let eighth : listShort file room ≡ listShort other room = cc same-count in
         λ i.
         test 1 (first i) ∷ test 2 (second i) ∷ test 3 (third i) ∷ test 4 (fourth i) ∷ test 5 (fifth i) ∷ test 6 (sixth i) ∷ test 7 (seventh i)
-        ∷ test 8 (eighth i) ∷ []
+        ∷ test 8 (eighth i) ∷ walked (same-verdict i) ∷ []
 
     same-answer : recordAnswer file room ≡ recordAnswer other room
     unfolding recordAnswer
-    same-answer = cc (same-tests, same-verdict, same-count)
+    same-answer = cc (same-tests, same-count)
 
 pub statements-are-a-set : StatementsAreASet
 statements-are-a-set file other fits fits′ s below room = same-answer file other s fits fits′ below room

@@ -2,12 +2,22 @@
 -- the goal's formula number. Then two parallel arrays of F words each, heads and seconds. Then S formula numbers, the statements. Then N step
 -- words." (01) Each is read as far as a file goes, so that it is something for every file. Assumes nothing.
 use Prim.Native.Nat.{ℕ, _+_, _*_}
-use mathlib.Core.List.{List}
-use Rattle.table.specs.declared.entry.Entry.{Entry}
-use Rattle.table.specs.Limits.{mostFormulas, mostStatements, mostSteps}
-use Rattle.table.specs.Tests.{entries}
+use mathlib.Core.Path.{_≡_}
+use mathlib.Core.List.{List, [], _∷_}
+use Rattle.basics.specs.Limits.{mostFormulas, mostStatements, mostSteps}
 use Rattle.file.specs.Words.{wordAt, part}
+use Rattle.file.specs.Layout as Any
+use Rattle.file.specs.Layout.{Layout, range, unranged, partOf}
+use Rattle.table.specs.declared.entry.Entry.{Entry}
+use Rattle.table.specs.Tests.{entries}
 use Rattle.signers.specs.Signers as S
+
+-- F, S, N and the goal; the parts have F, F, S and N words
+abbrev pub recordLayout : Layout
+recordLayout = record {
+  fields = range 1 mostFormulas ∷ range 0 mostStatements ∷ range 1 mostSteps ∷ unranged ∷ [];
+  parts = 0 ∷ 0 ∷ 1 ∷ 2 ∷ [];
+}
 
 -- the sizes F, S and N, and the goal
 abbrev pub formulas : List ℕ → ℕ
@@ -24,26 +34,33 @@ goal file = wordAt file 3
 
 -- the arrays
 abbrev pub heads : List ℕ → List ℕ
-heads file = part file 4 (formulas file)
+heads file = partOf recordLayout file 0
 
 abbrev pub seconds : List ℕ → List ℕ
-seconds file = part file (4 + formulas file) (formulas file)
+seconds file = partOf recordLayout file 1
 
 abbrev pub statements : List ℕ → List ℕ
-statements file = part file (4 + 2 * formulas file) (statementCount file)
+statements file = partOf recordLayout file 2
 
 abbrev pub steps : List ℕ → List ℕ
-steps file = part file (4 + 2 * formulas file + statementCount file) (stepCount file)
+steps file = partOf recordLayout file 3
 
--- "The length is 2 × (4 + 2F + S + N) bytes, at most 49,672."
-abbrev pub bytes : ℕ → ℕ → ℕ → ℕ
-bytes F S N = 2 * (4 + 2 * F + S + N)
-
+-- the length in bytes that a file's sizes ask for, and that of the longest record
 abbrev pub size : List ℕ → ℕ
-size file = bytes (formulas file) (statementCount file) (stepCount file)
+size file = Any.bytes recordLayout file
 
 abbrev pub mostBytes : ℕ
-mostBytes = bytes mostFormulas mostStatements mostSteps
+mostBytes = Any.mostBytes recordLayout
+
+-- The same in 01's numbers: where each array stands, and "The length is 2 × (4 + 2F + S + N) bytes, at most 49,672." Proved in proofs/LayoutIs.antt.
+pub record LayoutIs (file : List ℕ) : Type 0 where
+  pub heads-at : heads file ≡ part file 4 (formulas file)
+  pub seconds-at : seconds file ≡ part file (4 + formulas file) (formulas file)
+  pub statements-at : statements file ≡ part file (4 + 2 * formulas file) (statementCount file)
+  pub steps-at : steps file ≡ part file (4 + 2 * formulas file + statementCount file) (stepCount file)
+  pub size-is : size file ≡ 2 * (4 + 2 * formulas file + statementCount file + stepCount file)
+  pub most-is : mostBytes ≡ 49672
+  pub least-is : Any.leastBytes recordLayout ≡ 8
 
 -- the table taken apart, and the signers
 abbrev pub table : List ℕ → List Entry

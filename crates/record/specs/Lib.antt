@@ -2,7 +2,7 @@
 -- then demands 1 and 2 in plain words, what is promised, and the samples.
 pub mod Layout
 pub mod Answer
-pub mod Lent
+pub mod ListAfter
 pub mod Proof
 pub mod Reasons
 pub mod Promises

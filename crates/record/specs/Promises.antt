@@ -4,12 +4,12 @@ use mathlib.Core.Path.{_≡_}
 use mathlib.Core.Logic.{_↔_}
 use mathlib.Core.List.{List}
 use lib.ListN.{length, take}
-use Rattle.logic.specs.Hypotheses.{_∈_}
-use Rattle.table.specs.Limits.{mostStatements, mostSteps}
-use Rattle.file.specs.Refusals.{FirstReason}
+use Rattle.basics.specs.Membership.{_∈_}
+use Rattle.basics.specs.Limits.{mostStatements, mostSteps}
+use Rattle.basics.specs.Order.{FirstReason, checkingOrder}
 use Rattle.signers.specs.Each.{AreSigners}
-use Rattle.record.specs.declared.verdict.Verdict.{Verdict}
-use Rattle.record.specs.declared.verdict.Verdict.the-variants.{Granted, Refused}
+use Rattle.record.specs.declared.verdict.RecordVerdict.{RecordVerdict}
+use Rattle.record.specs.declared.verdict.RecordVerdict.the-variants.{Granted, Refused}
 use Rattle.record.specs.Layout.{formulas, goal, heads, seconds, statements, steps, mostBytes, table, signers}
 use Rattle.record.specs.Answer.{recordAnswer}
 use Rattle.record.specs.Proof.{Sized, Keeps, IsProof}
@@ -27,13 +27,13 @@ pub record Releases (file : List ℕ) (room count : ℕ) : Type 0 where
 abbrev pub GrantedExactly : Type 0
 GrantedExactly = (file : List ℕ) (room count : ℕ) → recordAnswer file room ≡ Granted count ↔ Releases file room count
 
--- "Every other file, of any bytes and length, is refused by the first reason in the fixed order that applies, with its place" (demand 1): the
--- reason with the lowest number of those that apply.
+-- "Every other file, of any bytes and length, is refused by the first reason in the fixed order that applies, with its place" (demand 1): of
+-- those that apply the one that stands first in the checking order.
 abbrev pub RefusedExactly : Type 0
-RefusedExactly = (file : List ℕ) (room number p : ℕ) → recordAnswer file room ≡ Refused number p ↔ FirstReason (Reason file room) number p
+RefusedExactly = (file : List ℕ) (room number p : ℕ) → recordAnswer file room ≡ Refused number p ↔ FirstReason checkingOrder (Reason file room) number p
 
 -- How large an answer can be.
-abbrev pub Small : Verdict → Type 0
+abbrev pub Small : RecordVerdict → Type 0
 Small (Granted count) = count ≤ mostStatements
 Small (Refused number p) = (1 ≤ number) × (number ≤ 15) × (p ≤ mostSteps)
 

@@ -3,16 +3,15 @@ use Prim.Native.Nat.{ℕ, _≤_, _<_}
 use mathlib.Core.Path.{_≡_}
 use mathlib.Core.List.{List}
 use lib.ListN.{length}
-use Rattle.logic.specs.Hypotheses.{_∈_}
+use Rattle.basics.specs.Membership.{_∈_}
+use Rattle.basics.specs.Limits.{mostFormulas, mostStatements, mostSteps, mostDepth}
 use Rattle.logic.specs.Judgment.{truth}
 use Rattle.logic.specs.Depth.{stepDepths}
 use Rattle.logic.specs.Figure1.{Derivation}
-use Rattle.table.specs.Limits.{mostFormulas, mostStatements, mostSteps, mostDepth}
-use Rattle.table.specs.Laws.{Ordered}
+use Rattle.table.specs.Laws.{Ordered, NoneRepeated}
 use Rattle.table.specs.Spelled.{spell, spellAll}
 use Rattle.table.specs.Number.{number}
 use Rattle.steps.specs.Words as Derived
-use Rattle.file.specs.Tests.{NoneRepeated}
 use Rattle.record.specs.Layout.{formulas, statementCount, stepCount, goal, heads, seconds, statements, steps, size, table}
 
 -- "F formulas (1 to 4,096), S statements (0 to 256), N steps (1 to 16,384)"

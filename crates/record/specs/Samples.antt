@@ -5,8 +5,8 @@ use mathlib.Core.Path.{_≡_}
 use mathlib.Core.List.{List, [], _∷_, _++_, map}
 use lib.ListN.{length}
 use Rattle.file.specs.Words.{fileOf}
-use Rattle.record.specs.declared.verdict.Verdict.{Verdict}
-use Rattle.record.specs.declared.verdict.Verdict.the-variants.{Granted, Refused}
+use Rattle.record.specs.declared.verdict.RecordVerdict.{RecordVerdict}
+use Rattle.record.specs.declared.verdict.RecordVerdict.the-variants.{Granted, Refused}
 use Rattle.record.specs.Layout.{signers}
 use Rattle.record.specs.Answer.{recordAnswer}
 
@@ -14,7 +14,7 @@ use Rattle.record.specs.Answer.{recordAnswer}
 pub record Sample : Type 0 where
   pub words : List ℕ
   pub room : ℕ
-  pub answer : Verdict
+  pub answer : RecordVerdict
   pub names : List ℕ
 
 abbrev pub grants : List ℕ → ℕ → List ℕ → Sample
@@ -24,7 +24,7 @@ abbrev pub refuses : List ℕ → ℕ → ℕ → ℕ → Sample
 refuses words room number place = record { words = words; room = room; answer = Refused number place; names = [] }
 
 -- the signers where there is a grant
-abbrev pub granted : Verdict → List ℕ → List ℕ
+abbrev pub granted : RecordVerdict → List ℕ → List ℕ
 granted (Granted count) names = names
 granted (Refused number place) names = []
 
@@ -50,7 +50,7 @@ rows =
     ∷ []
 
 -- each row has its answer, and a grant its signers
-abbrev pub answerTo : Sample → Verdict
+abbrev pub answerTo : Sample → RecordVerdict
 answerTo r = recordAnswer (fileOf (r .words)) (r .room)
 
 abbrev pub Hold : List Sample → Type 0

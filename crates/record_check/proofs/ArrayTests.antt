@@ -7,15 +7,15 @@ use mathlib.Core.List.{List, [], _∷_}
 use lib.ListN.{length}
 use lib.Dec.{ltb, leb}
 use borrow.Author.Tests.{lt-ltb, le-ltb}
-use Rattle.table.specs.declared.place.Place.{Place}
-use Rattle.table.specs.declared.place.Place.the-variants.{At, Nowhere}
-use Rattle.table.specs.declared.check.Tested.{Tested}
-use Rattle.table.specs.declared.check.Tested.the-variants.{Passed, Refused}
-use Rattle.table.specs.Tests.{entries, tableTests}
-use Rattle.file.specs.Refusals.{Test, test, at0, firstRefusal}
-use Rattle.file.specs.Tests.{SizedTable, outside}
-use Rattle.file.proofs.TableTests as Table
-use Rattle.file.proofs.Refusals.{applies, goes-on, applies-at-0, goes-on-at-0, none-left}
+use Rattle.basics.specs.declared.place.Place.{Place}
+use Rattle.basics.specs.declared.place.Place.the-variants.{At, Nowhere}
+use Rattle.basics.specs.declared.tested.Tested.{Tested}
+use Rattle.basics.specs.declared.tested.Tested.the-variants.{Passed, Refused}
+use Rattle.basics.specs.Refusals.{Test, test, at0, firstRefusal}
+use Rattle.basics.proofs.Refusals.{applies, goes-on, applies-at-0, goes-on-at-0, none-left}
+use Rattle.file.specs.Outside.{outside}
+use Rattle.table.specs.Tests.{entries, tableTests, SizedTable}
+use Rattle.table.proofs.TableTests as Table
 use Rattle.signers.specs.Signers.{signers}
 use Rattle.record_check.specs.Parts.{arrayTests}
 
@@ -31,7 +31,7 @@ module _ (heads seconds statements : List ℕ) (goal room : ℕ) (sized : SizedT
   from-6 = test 6 (at0 (leb (length heads) goal)) ∷ from-7
 
   abbrev all : Tested
-  all = arrayTests heads seconds statements goal room
+  all = firstRefusal (arrayTests heads seconds statements goal room)
 
   pub refused-4-5 : {number p : ℕ} → t ≡ Refused number p → Refused number p ≡ all
   refused-4-5 = Table.refused-4-5 heads seconds sized answered from-6

@@ -1,29 +1,41 @@
 -- 4 to 15 in one: each answer of the code is a case of `arraysAnswer`. Assumes nothing.
 use Prim.Native.Nat.{ℕ}
 use mathlib.Core.Path.{_≡_, sym, ap, _∙_}
-use mathlib.Core.List.{List}
-use Rattle.table.specs.declared.check.Tested.{Tested}
-use Rattle.table.specs.declared.check.Tested.the-variants as T
-use Rattle.record.specs.declared.verdict.Verdict.{Verdict}
-use Rattle.record.specs.declared.verdict.Verdict.the-variants.{Refused}
-use Rattle.record.specs.Answer.{afterTests}
-use Rattle.steps_check.specs.RecordSteps.{stepTests}
-use Rattle.record_check.specs.Parts.{arrayTests, granted, arraysAnswer}
+use mathlib.Core.List.{List, [], _∷_}
+use Rattle.basics.specs.declared.tested.Tested.{Tested}
+use Rattle.basics.specs.declared.tested.Tested.the-variants as Tests
+use Rattle.basics.specs.Refusals.{Test, firstRefusal}
+use Rattle.basics.proofs.Refusals.{joined-refused, joined-passed}
+use Rattle.record.specs.declared.verdict.RecordVerdict.{RecordVerdict}
+use Rattle.record.specs.declared.verdict.RecordVerdict.the-variants.{Refused}
+use Rattle.record.specs.Answer.{unlessRefused}
+use Rattle.record_check.specs.Parts.{arrayTests, stepTest, granted, arraysAnswer}
 
-module _ (heads seconds statements : List ℕ) (goal : ℕ) (steps : List ℕ) (room : ℕ) {t : Tested} (tested : t ≡ arrayTests heads seconds statements goal room) where
-  -- what follows 8
-  abbrev rest : Verdict
-  rest = afterTests (stepTests heads seconds statements goal steps) (granted heads seconds statements)
+module _ (heads seconds statements : List ℕ) (goal : ℕ) (steps : List ℕ) (room : ℕ)
+    {t : Tested} (tested : t ≡ firstRefusal (arrayTests heads seconds statements goal room))
+  where
+    abbrev all : RecordVerdict
+    all = arraysAnswer heads seconds statements goal steps room
 
-  pub refused-to-8 : {number p : ℕ} → t ≡ T.Refused number p → Refused number p ≡ arraysAnswer heads seconds statements goal steps room
-  refused-to-8 e = ap (λ (z : Tested). afterTests z rest) (sym e ∙ tested)
+    abbrev to-8 : List Test
+    to-8 = arrayTests heads seconds statements goal room
 
-  module _ (passed : t ≡ T.Passed) {u : Tested} (walked : u ≡ stepTests heads seconds statements goal steps) where
-    after-8 : rest ≡ arraysAnswer heads seconds statements goal steps room
-    after-8 = ap (λ (z : Tested). afterTests z rest) (sym passed ∙ tested)
+    abbrev from-9 : List Test
+    from-9 = stepTest heads seconds statements goal steps ∷ []
 
-    pub refused-to-15 : {number p : ℕ} → u ≡ T.Refused number p → Refused number p ≡ arraysAnswer heads seconds statements goal steps room
-    refused-to-15 e = ap (λ (z : Tested). afterTests z (granted heads seconds statements)) (sym e ∙ walked) ∙ after-8
+    -- what the tests come to, as an answer
+    abbrev answer : Tested → RecordVerdict
+    answer u = unlessRefused u (granted heads seconds statements)
 
-    pub granted-by-all : {v : Verdict} → u ≡ T.Passed → v ≡ granted heads seconds statements → v ≡ arraysAnswer heads seconds statements goal steps room
-    granted-by-all e is = is ∙ ap (λ (z : Tested). afterTests z (granted heads seconds statements)) (sym e ∙ walked) ∙ after-8
+    pub refused-to-8 : {number p : ℕ} → t ≡ Tests.Refused number p → Refused number p ≡ all
+    refused-to-8 e = ap answer (sym (joined-refused to-8 from-9 (sym tested ∙ e)))
+
+    module _ (passed : t ≡ Tests.Passed) {u : Tested} (walked : u ≡ firstRefusal from-9) where
+      after-8 : answer u ≡ all
+      after-8 = ap answer (walked ∙ sym (joined-passed to-8 from-9 (sym tested ∙ passed)))
+
+      pub refused-to-15 : {number p : ℕ} → u ≡ Tests.Refused number p → Refused number p ≡ all
+      refused-to-15 e = ap answer (sym e) ∙ after-8
+
+      pub granted-by-all : {v : RecordVerdict} → u ≡ Tests.Passed → v ≡ granted heads seconds statements → v ≡ all
+      granted-by-all e is = is ∙ ap answer (sym e) ∙ after-8

@@ -1,12 +1,13 @@
 // Tests 4 to 8: the table, the goal's and the statements' numbers, and the room for the signers.
 ghost use mathlib.Core.Path.{_≡_};
-ghost use Rattle.file.specs.Tests.{SizedTable};
+ghost use Rattle.basics.specs.Refusals.{firstRefusal};
+ghost use Rattle.table.specs.Tests.{SizedTable};
 ghost use Rattle.record_check.specs.Parts.{arrayTests};
+use basics::place::Place;
+use basics::tested::Tested;
 use file::numbers::first_outside;
 use file::numbers::is_outside;
 use signers::collect::signer_count;
-use table::check::Tested;
-use table::place::Place;
 use table_check::check::check_table;
 
 // 4 to 8, over a table of a size that 2 allows.
@@ -18,7 +19,7 @@ pub(crate) fn check_arrays(
     room: usize,
 ) -> Tested
     requires { ⌜ SizedTable (now heads) (now seconds) ⌝ }
-    ensures { λ r. ⌜ r ≡ arrayTests (now (heads .entry)) (now (seconds .entry)) (now (statements .entry)) goal room ⌝ }
+    ensures { λ r. ⌜ r ≡ firstRefusal (arrayTests (now (heads .entry)) (now (seconds .entry)) (now (statements .entry)) goal room) ⌝ }
 {
     if let Tested::Refused { number, place } = check_table(heads, seconds) {
         return Tested::Refused { number, place };

@@ -2,29 +2,28 @@
 ghost use Prim.Native.Nat.{_*_, _≤_};
 ghost use mathlib.Core.Path.{_≡_};
 ghost use lib.ListN.{length};
-ghost use Rattle.file.specs.Tests.{SizedTable};
+ghost use Rattle.table.specs.Tests.{SizedTable};
 ghost use Rattle.record.specs.Answer.{recordAnswer};
-ghost use Rattle.record.specs.Lent.{Left};
+ghost use Rattle.record.specs.ListAfter.{ListAfter};
 ghost use Rattle.record.specs.Proof.{Sized};
-ghost use Rattle.record_check.specs.Parts.{granted, arraysAnswer, listAfter};
+ghost use Rattle.record_check.specs.Parts.{granted, arraysAnswer, listWritten};
 use crate::arrays::check_arrays;
+use crate::layout::MOST_WORDS;
+use crate::layout::check_layout;
+use crate::proof::check_steps;
+use basics::tested::Tested;
+use file::words::FEW_WORDS;
 use file::words::read_words;
 use file::words::word_at;
-use layout_check::limits::FEW_WORDS;
-use layout_check::record_layout::check_layout;
-use layout_check::record_layout::read_sizes;
-use layout_check::record_limits::MOST_WORDS;
-use record::verdict::Verdict;
+use record::verdict::RecordVerdict;
 use signers::collect::write_signers;
-use steps_check::record_steps::check_steps;
-use table::check::Tested;
 
 // "Granted gives their count": the signers go into the list, which is long enough since 8 has passed.
-fn grant(heads: &[u16], seconds: &[u16], statements: &[u16], signers: &mut [u16]) -> Verdict
+fn grant(heads: &[u16], seconds: &[u16], statements: &[u16], signers: &mut [u16]) -> RecordVerdict
     ensures { λ r. ⌜ r ≡ granted (now (heads .entry)) (now (seconds .entry)) (now (statements .entry)) ⌝ }
-    ensures { λ r. ⌜ now (signers .exit) ≡ listAfter r (now (heads .entry)) (now (seconds .entry)) (now (statements .entry)) (now (signers .entry)) ⌝ }
+    ensures { λ r. ⌜ now (signers .exit) ≡ listWritten r (now (heads .entry)) (now (seconds .entry)) (now (statements .entry)) (now (signers .entry)) ⌝ }
 {
-    Verdict::Granted(write_signers(heads, seconds, statements, signers))
+    RecordVerdict::Granted(write_signers(heads, seconds, statements, signers))
 }
 
 // 4 to 15, and the signers' list: written only once all tests have passed.
@@ -35,10 +34,10 @@ fn check_contents(
     goal: u16,
     steps: &[u16],
     signers: &mut [u16],
-) -> Verdict
+) -> RecordVerdict
     requires { ⌜ SizedTable (now heads) (now seconds) ⌝ }
     ensures { λ r. ⌜ r ≡ arraysAnswer (now (heads .entry)) (now (seconds .entry)) (now (statements .entry)) goal (now (steps .entry)) (length (now (signers .entry))) ⌝ }
-    ensures { λ r. ⌜ now (signers .exit) ≡ listAfter r (now (heads .entry)) (now (seconds .entry)) (now (statements .entry)) (now (signers .entry)) ⌝ }
+    ensures { λ r. ⌜ now (signers .exit) ≡ listWritten r (now (heads .entry)) (now (seconds .entry)) (now (statements .entry)) (now (signers .entry)) ⌝ }
 {
     if let Tested::Refused { number, place } = check_arrays(
         heads,
@@ -47,7 +46,7 @@ fn check_contents(
         goal,
         signers.len(),
     ) {
-        return Verdict::Refused { number, place };
+        return RecordVerdict::Refused { number, place };
     }
     if let Tested::Refused { number, place } = check_steps(
         heads,
@@ -56,24 +55,24 @@ fn check_contents(
         goal,
         steps,
     ) {
-        return Verdict::Refused { number, place };
+        return RecordVerdict::Refused { number, place };
     }
     grant(heads, seconds, statements, signers)
 }
 
 // 4 to 15 of a file that 1 to 3 let pass. Its words are read into `words`, which has room for them.
-fn check_sized(file: &[u8], words: &mut [u16], signers: &mut [u16]) -> Verdict
+fn check_sized(file: &[u8], words: &mut [u16], signers: &mut [u16]) -> RecordVerdict
     requires { ⌜ Sized (now file) ⌝ }
     requires { ⌜ length (now file) ≤ 2 * length (now words) ⌝ }
     ensures { λ r. ⌜ r ≡ recordAnswer (now (file .entry)) (length (now (signers .entry))) ⌝ }
-    ensures { λ r. ⌜ Left (now (file .entry)) r (now (signers .entry)) (now (signers .exit)) ⌝ }
+    ensures { λ r. ⌜ ListAfter (now (file .entry)) r (now (signers .entry)) (now (signers .exit)) ⌝ }
 {
     read_words(file, words);
-    let s = read_sizes(file);
-    let seconds_from = 4 + s.formulas as usize;
-    let statements_from = seconds_from + s.formulas as usize;
-    let steps_from = statements_from + s.statements as usize;
-    let end = steps_from + s.steps as usize;
+    let formulas = word_at(file, 0) as usize;
+    let seconds_from = 4 + formulas;
+    let statements_from = seconds_from + formulas;
+    let steps_from = statements_from + word_at(file, 1) as usize;
+    let end = steps_from + word_at(file, 2) as usize;
     check_contents(
         &words[4..seconds_from],
         &words[seconds_from..statements_from],
@@ -86,12 +85,12 @@ fn check_sized(file: &[u8], words: &mut [u16], signers: &mut [u16]) -> Verdict
 
 // The answer for a file of any bytes and length. On a grant the signers stand in the lent list from its start, in some order, and the words after
 // them are as they were; on a refusal the whole list is.
-pub fn check_record(file: &[u8], signers: &mut [u16]) -> Verdict
+pub fn check_record(file: &[u8], signers: &mut [u16]) -> RecordVerdict
     ensures { λ r. ⌜ r ≡ recordAnswer (now (file .entry)) (length (now (signers .entry))) ⌝ }
-    ensures { λ r. ⌜ Left (now (file .entry)) r (now (signers .entry)) (now (signers .exit)) ⌝ }
+    ensures { λ r. ⌜ ListAfter (now (file .entry)) r (now (signers .entry)) (now (signers .exit)) ⌝ }
 {
     if let Tested::Refused { number, place } = check_layout(file) {
-        return Verdict::Refused { number, place };
+        return RecordVerdict::Refused { number, place };
     }
     if file.len() <= 2 * FEW_WORDS {
         let mut words = [0u16; FEW_WORDS];

@@ -9,11 +9,11 @@ use mir.Val.{hasKey}
 use types.Run.{OneOf, miss}
 use denote.Enum.Declared.{tagOf}
 use borrow.Author.Tests.{ne-eqb}
+use Rattle.basics.specs.Choice.{pick}
 use Rattle.table.specs.declared.entry.Formula.{Formula}
 use Rattle.table.specs.declared.entry.Principal.{Principal}
 use Rattle.table.specs.declared.entry.Entry.{Entry}
 use Rattle.table.specs.declared.entry.Entry.the-variants.{Atom, False, Implies, And, Or, Says, IllFormed}
-use Rattle.table.specs.Choice.{pick}
 use Rattle.table.proofs.entry.Entry.{the-type}
 use Rattle.steps.specs.declared.opened.Opened.{Opened}
 use Rattle.steps.specs.Needs.{byKind, isAtom, isFalse, isImplies, isAnd, isOr, isSays, other, other₂}

@@ -1,18 +1,20 @@
 -- Laws of tests 11 and 12: which numbers have an entry, which codes have no rule, and that the slots answer 12. Assumes nothing.
-use Prim.Native.Nat.{ℕ, zero, suc, _/_, _%_, _≤_, min}
+use Prim.Native.Nat.{ℕ, zero, suc, _≤_, min}
 use native.Mathlib.Omega.{arith}
 use mathlib.Core.Bool.{Bool, true, false}
-use mathlib.Core.Path.{_≡_, refl, sym}
+use mathlib.Core.Path.{_≡_, refl, sym, ap, ap₂, _∙_}
 use mathlib.Core.List.{List}
 use lib.ListN.{length, getD}
 use lib.Dec.{ltb}
 use borrow.Author.Tests.{lt-ltb, le-ltb, ltb-true, ltb-false}
+use Rattle.basics.specs.Choice.{both}
+use Rattle.basics.specs.Membership.{holds}
+use Rattle.basics.specs.Word.{upper, lower}
 use Rattle.table.specs.declared.entry.Entry.{Entry}
-use Rattle.table.specs.Choice.{both}
 use Rattle.table.specs.Tests.{entries}
 use Rattle.table.proofs.Entries.{length-entries}
 use Rattle.steps.specs.declared.opened.Opened.{Opened}
-use Rattle.steps.specs.Obligation.{Obligation, holds}
+use Rattle.steps.specs.Obligation.{Obligation}
 use Rattle.steps.specs.Step.{Rule, names, plain, unknown, rules, applied, opens}
 use Rattle.steps.specs.Figure1.{same}
 use Rattle.hypotheses.specs.Slots.{isHeld}
@@ -45,10 +47,12 @@ is-applied es (names rule) o n = refl
 is-applied es (plain rule) o n = refl
 is-applied es unknown o n = refl
 
--- The slots answer 12 for the hypotheses that they show.
+-- The slots answer 12 for the hypotheses that they show, by the code and the part that the code has of the word.
 pub opened : (es : List Entry) (slots : List Bool) (w : ℕ) (o : Obligation) → Shows slots (o .hypotheses)
-    → {held : Bool} → held ≡ both (ltb (w % 4096) (length es)) (isHeld slots (w % 4096))
-    → {r : Opened} → r ≡ tested (getD (rules same es) (w / 4096) unknown) held (w % 4096) (o .goal) → r ≡ opens same es w o
+    → {code n : ℕ} → code ≡ upper w → n ≡ lower w → {held : Bool} → held ≡ both (ltb n (length es)) (isHeld slots n)
+    → {r : Opened} → r ≡ tested (getD (rules same es) code unknown) held n (o .goal) → r ≡ opens same es w o
 unfolding opens
-opened es slots w o shows e f =
-    rw (← is-applied es (getD (rules same es) (w / 4096) unknown) o (w % 4096), ← shows (w % 4096) (omega arith), ← e) f
+opened es slots w o shows k m {held} e f =
+    let asked : held ≡ both (ltb (lower w) (length es)) (isHeld slots (lower w)) = e ∙ ap (λ (z : ℕ). both (ltb z (length es)) (isHeld slots z)) m in
+    rw (← is-applied es (getD (rules same es) (upper w) unknown) o (lower w), ← shows (lower w) (omega arith), ← asked)
+    (f ∙ ap₂ (λ (z y : ℕ). tested (getD (rules same es) z unknown) held y (o .goal)) k m)

@@ -2,7 +2,7 @@
 ghost use mathlib.Core.Path.{_≡_};
 ghost use lib.ListN.{length, getD};
 ghost use lib.Dec.{eqb, ltb};
-ghost use Rattle.table.specs.Choice.{pick, both};
+ghost use Rattle.basics.specs.Choice.{pick, both};
 ghost use Rattle.table.specs.Tests.{entries};
 ghost use Rattle.steps.specs.Step.{rules, unknown};
 ghost use Rattle.steps.specs.Figure1 as Figure1;
@@ -10,10 +10,12 @@ ghost use Rattle.steps.specs.Figure1.{same};
 ghost use Rattle.hypotheses.specs.Slots.{isHeld, shown};
 ghost use Rattle.rules.specs.Tested.{tested};
 use crate::rules;
+use basics::limits::MOST_DEPTH;
+use basics::word::lower;
+use basics::word::upper;
 use hypotheses::hypotheses::is_held;
 use steps::goal::Goal;
 use steps::opened::Opened;
-use table::limits::MOST_DEPTH;
 
 // Whether a number has an entry.
 fn is_entry(heads: &[u16], seconds: &[u16], n: u16) -> bool
@@ -79,8 +81,8 @@ pub fn open(
     if MOST_DEPTH < depth {
         return Opened::Refused(10);
     }
-    let code = word / 4096;
-    let n = word % 4096;
+    let code = upper(word);
+    let n = lower(word);
     let held = is_hypothesis(heads, seconds, slots, n);
     apply(heads, seconds, held, code, n, goal)
 }

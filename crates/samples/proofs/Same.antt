@@ -9,7 +9,7 @@ use lib.ListN.{length, getD, take, drop, length-drop, drop-of-length-le}
 use lib.Seq.{take-all, drop-cons}
 use lib.Dec.{eqb}
 use borrow.Author.Tests.{eq-eqb, ne-eqb}
-use Rattle.table.specs.Choice.{both}
+use Rattle.basics.specs.Choice.{both}
 use Rattle.samples.specs.EndsWith.{same, endsWith}
 
 never : (t : Bool) → both t false ≡ false

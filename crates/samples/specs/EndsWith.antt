@@ -4,7 +4,7 @@ use mathlib.Core.Bool.{Bool, true, false}
 use mathlib.Core.List.{List, [], _∷_}
 use lib.ListN.{length, drop}
 use lib.Dec.{eqb}
-use Rattle.table.specs.Choice.{both}
+use Rattle.basics.specs.Choice.{both}
 
 -- whether two byte strings are the same
 unfoldable pub same : List ℕ → List ℕ → Bool

@@ -3,13 +3,13 @@
 ghost use Prim.Native.Nat.{_≤_};
 ghost use mathlib.Core.Path.{_≡_};
 ghost use lib.ListN.{length, take};
-use answers::answer_line::answer_exchange_line;
-use answers::answer_line::answer_line;
-use answers::answer_line::line_buffer;
 use ending::ends_with;
+use exchange_check::layout::file_buffer;
 use input::read_input;
-use layout_check::exchange_limits::file_buffer;
 use libc::STDOUT_FILENO;
+use report::exchange_line;
+use report::line_buffer;
+use report::record_line;
 
 mod ending;
 
@@ -18,9 +18,9 @@ fn answer_named(name: &[u8], file: &[u8], line: &mut [u8]) -> usize
     ensures { λ r. ⌜ (r ≤ length (now (line .exit))) × (r ≡ length (take r (now (line .exit)))) ⌝ }
 {
     if ends_with(name, b".exchange") {
-        answer_exchange_line(file, line)
+        exchange_line(file, line)
     } else {
-        answer_line(file, line)
+        record_line(file, line)
     }
 }
 

@@ -6,20 +6,18 @@ use mathlib.Core.Bool.{false≢true}
 use mathlib.Core.Path.{_≡_, sym, ap, subst, _∙_}
 use mathlib.Core.Logic.{_⊎_, inl, inr, ⊎-elim}
 use mathlib.Core.List.{List, [], _∷_, List·Memᴰ·head, List·Memᴰ·tail, List·Memᴰ·not-nil, List·Memᴰ·append-cases, List·Memᴰ·eq-of-singleton, Memᴰ·cast, Memᴰ·append-left, Memᴰ·append-right, Memᴰ·map, Memᴰ·of-map}
-use Rattle.logic.specs.Hypotheses.{_∈_, _⊆_}
+use Rattle.basics.specs.Membership.{_∈_, _⊆_, holds}
+use Rattle.basics.proofs.Membership.{first, added, holds-member}
+use Rattle.basics.proofs.Choice.{pick-cases}
 use Rattle.logic.specs.Proposition.{Proposition, _says_}
-use Rattle.logic.proofs.Hypotheses.{first, added}
 use Rattle.table.specs.declared.entry.Entry.{Entry}
 use Rattle.table.specs.declared.entry.Entry.the-variants.{Atom, False, Implies, And, Or, Says, IllFormed}
 use Rattle.table.specs.declared.entry.Formula.{Formula}
 use Rattle.table.specs.Entry.{principal}
 use Rattle.table.specs.Tests.{entryAt}
 use Rattle.table.specs.Spelled.{proposition, spelled, spell}
-use Rattle.table.proofs.Choice.{pick-cases}
 use Rattle.table.proofs.Spelled.{made-of-operands}
 use Rattle.table.proofs.Shapes.{spell-at}
-use Rattle.steps.specs.Obligation.{holds}
-use Rattle.steps.proofs.Holds.{holds-member}
 use Rattle.signers.specs.Signers.{joined, joinedAll, signers}
 use Rattle.signers.specs.Each.{Signs, EachOnce, AreSigners, SignersAre, OneCount, SignsSpelled, SameSigners}
 use Rattle.signers.proofs.Members.{once-more, no-more}
@@ -53,7 +51,7 @@ module _ (ks : List ℕ) (e : Entry) where
 -- ---- all statements
 
 -- Who signs some statements signs any that have these.
-signs-more : {es : List Entry} {some others : List ℕ} {K : ℕ} → some ⊆ others → Signs es some K → Signs es others K
+signs-more : {es : List Entry} {first second : List ℕ} {K : ℕ} → first ⊆ second → Signs es first K → Signs es second K
 signs-more all s = record { statement = s .statement; stands = all (s .statement) (s .stands); said = s .said; is = s .is }
 
 module _ (es : List Entry) where
@@ -105,16 +103,16 @@ one-count es ns ks are =
     omega (arith, no-more ks (signers es ns) (are .once) to, no-more (signers es ns) ks (found .once) from)
 
 -- Signers of some statements are those of others with the same members.
-are-more : {es : List Entry} {some others ks : List ℕ} → some ⊆ others → others ⊆ some → AreSigners es some ks → AreSigners es others ks
+are-more : {es : List Entry} {first second ks : List ℕ} → first ⊆ second → second ⊆ first → AreSigners es first ks → AreSigners es second ks
 are-more to from are = record {
   each = λ K. (λ m. signs-more to (are .each K .0 m), λ s. are .each K .1 (signs-more from s));
   once = are .once;
 }
 
 pub same-signers : SameSigners
-same-signers es some others same ks =
-    let to : some ⊆ others = λ n. same n .0 in
-    let from : others ⊆ some = λ n. same n .1 in
+same-signers es first second same ks =
+    let to : first ⊆ second = λ n. same n .0 in
+    let from : second ⊆ first = λ n. same n .1 in
     (are-more to from, are-more from to)
 
 -- ---- over propositions

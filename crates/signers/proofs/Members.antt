@@ -5,8 +5,8 @@ use mathlib.Core.Path.{_≡_, refl, sym, ap, _∙_}
 use mathlib.Core.Logic.{⊎-elim}
 use mathlib.Core.List.{List, [], _∷_, _++_, List·Memᴰ·head, List·Memᴰ·tail, List·Memᴰ·not-nil, List·Memᴰ·cases-cons, List·Memᴰ·append-cases, List·Memᴰ·eq-of-singleton, Memᴰ·cast}
 use lib.ListN.{length}
-use Rattle.logic.specs.Hypotheses.{_∈_, _⊆_}
-use Rattle.logic.proofs.Hypotheses.{first}
+use Rattle.basics.specs.Membership.{_∈_, _⊆_}
+use Rattle.basics.proofs.Membership.{first}
 use Rattle.signers.specs.Each.{EachOnce}
 
 -- What is not among them goes behind them.

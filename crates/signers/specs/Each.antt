@@ -4,7 +4,8 @@ use mathlib.Core.Path.{_≡_}
 use mathlib.Core.Logic.{_↔_}
 use mathlib.Core.List.{List, [], _∷_}
 use lib.ListN.{length}
-use Rattle.logic.specs.Hypotheses.{_∈_}
+use Rattle.basics.specs.Membership.{_∈_}
+use Rattle.basics.specs.Limits.{mostPrincipals}
 use Rattle.logic.specs.Proposition.{Proposition, _says_}
 use Rattle.table.specs.declared.entry.Entry.{Entry}
 use Rattle.table.specs.declared.entry.Entry.the-variants.{Says}
@@ -13,7 +14,7 @@ use Rattle.table.specs.Entry.{principal}
 use Rattle.table.specs.Laws.{Ordered}
 use Rattle.table.specs.Spelled.{spellAll}
 use Rattle.table.specs.Tests.{entries, entryAt}
-use Rattle.signers.specs.Signers.{mostPrincipals, signers}
+use Rattle.signers.specs.Signers.{signers}
 
 -- K is the principal of a statement "of the form K says A".
 pub record Signs (es : List Entry) (statements : List ℕ) (K : ℕ) : Type 0 where
@@ -58,5 +59,5 @@ SignsSpelled = (es : List Entry) → Ordered es → (statements : List ℕ) (K :
 -- Lists of statements with the same members have the same signers: "a statement that stands twice" makes no other.
 abbrev pub SameSigners : Type 0
 SameSigners =
-    (es : List Entry) (some others : List ℕ) → ((n : ℕ) → n ∈ some ↔ n ∈ others)
-    → (ks : List ℕ) → AreSigners es some ks ↔ AreSigners es others ks
+    (es : List Entry) (first second : List ℕ) → ((n : ℕ) → n ∈ first ↔ n ∈ second)
+    → (ks : List ℕ) → AreSigners es first ks ↔ AreSigners es second ks

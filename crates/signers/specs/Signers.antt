@@ -1,15 +1,11 @@
 -- "The signers of a record are the principals K of its statements of the form K says A, each once, in any order." (01) Assumes nothing.
 use Prim.Native.Nat.{ℕ}
 use mathlib.Core.List.{List, [], _∷_, _++_}
+use Rattle.basics.specs.Choice.{pick}
+use Rattle.basics.specs.Membership.{holds}
 use Rattle.table.specs.declared.entry.Entry.{Entry}
 use Rattle.table.specs.declared.entry.Entry.the-variants.{Atom, False, Implies, And, Or, Says, IllFormed}
-use Rattle.table.specs.Choice.{pick}
 use Rattle.table.specs.Tests.{entryAt}
-use Rattle.steps.specs.Obligation.{holds}
-
--- "Atoms and principals are numbered 0 to 4,095."
-abbrev pub mostPrincipals : ℕ
-mostPrincipals = 4096
 
 -- the signers found, and the principal of one statement more; "a statement that isn't a says-formula is a standing order of the mill"
 abbrev pub joined : List ℕ → Entry → List ℕ

@@ -1,6 +1,6 @@
 -- Hypotheses form a set, and what a refusal can be (specs/Alike.antt). In order: a step of obligations that are alike; their walk; the number of
 -- a step's refusal; number and place of a run's. Assumes nothing.
-use Prim.Native.Nat.{ℕ, suc, _+_, _≤_, _/_, _%_}
+use Prim.Native.Nat.{ℕ, suc, _+_, _≤_}
 use native.Mathlib.Omega.{arith}
 use mathlib.Core.Bool.{Bool, true, false}
 use mathlib.Core.Path.{_≡_, refl, sym, ap, fun-ext}
@@ -8,28 +8,28 @@ use mathlib.Core.Logic.{_↔_, Iff·trans, Iff·symm}
 use mathlib.Core.List.{List, [], _∷_, _++_, map, Forall₂, Forall₂·nil, Forall₂·cons}
 use lib.ListN.{length, getD}
 use lib.Dec.{eqb, leb}
-use Rattle.logic.specs.Hypotheses.{_⊆_}
-use Rattle.logic.proofs.Hypotheses.{⊆-trans, ⊆-left, ⊆-right, ⊆-append}
+use Rattle.basics.specs.Membership.{_⊆_, holds}
+use Rattle.basics.specs.Word.{upper, lower}
+use Rattle.basics.proofs.Membership.{⊆-trans, ⊆-left, ⊆-right, ⊆-append, holds-member}
+use Rattle.basics.proofs.Choice.{pick-cases}
 use Rattle.table.specs.declared.entry.Formula.{Formula}
 use Rattle.table.specs.declared.entry.Principal.{Principal}
 use Rattle.table.specs.declared.entry.Entry.{Entry}
 use Rattle.table.specs.declared.entry.Entry.the-variants.{Atom, False, Implies, And, Or, Says, IllFormed}
-use Rattle.table.proofs.Choice.{pick-cases}
 use Rattle.steps.specs.declared.goal.Goal.{Goal}
 use Rattle.steps.specs.declared.goal.Goal.the-variants.{True, Affirms}
 use Rattle.steps.specs.declared.opened.Premise.{Premise}
 use Rattle.steps.specs.declared.opened.Opened.{Opened}
 use Rattle.steps.specs.declared.opened.Opened.the-variants as Opening
-use Rattle.steps.specs.declared.verdict.Verdict.{Verdict}
-use Rattle.steps.specs.declared.verdict.Verdict.the-variants.{Closed, Refused}
-use Rattle.steps.specs.Obligation.{Obligation, added, under, holds}
+use Rattle.steps.specs.declared.verdict.WalkVerdict.{WalkVerdict}
+use Rattle.steps.specs.declared.verdict.WalkVerdict.the-variants.{Closed, Refused}
+use Rattle.steps.specs.Obligation.{Obligation, added, under}
 use Rattle.steps.specs.Needs.{truth, affirmation, byKind}
 use Rattle.steps.specs.Rules.{servedBy}
 use Rattle.steps.specs.Step.{Rule, names, plain, unknown, rules, applied, opens, step}
 use Rattle.steps.specs.Run.{after, allUsed, walk, run}
 use Rattle.steps.specs.Alike.{Alike, HypothesesAreASet, RefusedInRange}
 use Rattle.steps.proofs.Cases.{Each, getD-cases}
-use Rattle.steps.proofs.Holds.{holds-member}
 use Rattle.steps.proofs.Parts.{refusedAt}
 
 -- ---- a step of obligations that are alike
@@ -57,8 +57,8 @@ module _ (speaks : ℕ → ℕ → Bool) (es : List Entry) where
   step-alike : (limit w : ℕ) {o o′ : Obligation} → Alike o o′ → step speaks es limit w o ≡ step speaks es limit w o′
   unfolding step opens
   step-alike limit w {o} {o′} a =
-      let rule = getD (rules speaks es) (w / 4096) unknown in
-      let n = w % 4096 in
+      let rule = getD (rules speaks es) (upper w) unknown in
+      let n = lower w in
       rw (a .same-depth, a .same-goal, applied-alike rule (o .hypotheses) (o′ .hypotheses) n (o′ .goal) (held-alike a n))
 
 -- ---- a walk of obligations that are alike
@@ -150,18 +150,18 @@ module _ (speaks : ℕ → ℕ → Bool) (es : List Entry) where
   unfolding step opens
   step-opens limit w o =
       pick-cases Openable (leb (o .depth) limit)
-      (λ t. getD-cases Opens (rules speaks es) unknown each (λ c hs n g. eleven) (w / 4096) (o .hypotheses) (w % 4096) (o .goal))
+      (λ t. getD-cases Opens (rules speaks es) unknown each (λ c hs n g. eleven) (upper w) (o .hypotheses) (lower w) (o .goal))
       (λ t. ten)
 
 -- ---- number and place of a run's refusal
 
 -- A refusal is one of 9 to `most`, and no place is past the last.
-abbrev Within : ℕ → ℕ → Verdict → Type 0
+abbrev Within : ℕ → ℕ → WalkVerdict → Type 0
 Within most last (Closed q) = q ≤ last
 Within most last (Refused number q) = (9 ≤ number) × (number ≤ most) × (q ≤ last)
 
 -- what follows a step at p
-after-within : {x : Opened} → Openable x → (p last : ℕ) → p ≤ last → (next : List Premise → Verdict)
+after-within : {x : Opened} → Openable x → (p last : ℕ) → p ≤ last → (next : List Premise → WalkVerdict)
     → ((ps : List Premise) → Within 14 last (next ps)) → Within 14 last (after x (refusedAt p) next)
 after-within ten p last l next w = omega arith
 after-within eleven p last l next w = omega arith
@@ -173,7 +173,7 @@ after-within one p last l next w = w _
 after-within two p last l next w = w _
 
 -- test 15
-all-used-within : (n : ℕ) (v : Verdict) → Within 14 n v → Within 15 n (allUsed n v)
+all-used-within : (n : ℕ) (v : WalkVerdict) → Within 14 n v → Within 15 n (allUsed n v)
 all-used-within n (Closed p) w = pick-cases (Within 15 n) (eqb p n) (λ t. w) (λ t. omega arith)
 all-used-within n (Refused number p) w = omega arith
 

@@ -1,31 +1,32 @@
 -- The rules that apply: 01's table once more, as a relation. What a step opens is a refusal or the premises of a rule that applies, so to
 -- show something of every step, show it of each row here (`step-takes`). Assumes nothing.
-use Prim.Native.Nat.{ℕ, _≤_, _<_, _/_, _%_}
+use Prim.Native.Nat.{ℕ, _≤_, _<_}
 use mathlib.Core.Bool.{Bool, true}
 use mathlib.Core.Path.{_≡_, sym, subst}
 use mathlib.Core.List.{List, [], _∷_}
 use lib.ListN.{length, getD}
 use lib.Dec.{eqb, ltb, leb}
 use borrow.Author.Tests.{ltb-true, leb-true, eqb-true}
-use Rattle.logic.specs.Hypotheses.{_∈_}
+use Rattle.basics.specs.Membership.{_∈_, holds}
+use Rattle.basics.specs.Choice.{pick, both}
+use Rattle.basics.specs.Word.{upper, lower}
+use Rattle.basics.proofs.Choice.{both-true, pick-cases}
+use Rattle.basics.proofs.Membership.{holds-member}
 use Rattle.table.specs.declared.entry.Atom as A
 use Rattle.table.specs.declared.entry.Formula.{Formula}
 use Rattle.table.specs.declared.entry.Principal.{Principal}
 use Rattle.table.specs.declared.entry.Entry.{Entry}
 use Rattle.table.specs.declared.entry.Entry.the-variants.{Atom, False, Implies, And, Or, Says}
-use Rattle.table.specs.Choice.{pick, both}
 use Rattle.table.specs.Tests.{entryAt}
-use Rattle.table.proofs.Choice.{both-true, pick-cases}
 use Rattle.steps.specs.declared.goal.Goal.{Goal}
 use Rattle.steps.specs.declared.goal.Goal.the-variants.{True, Affirms}
 use Rattle.steps.specs.declared.opened.Premise.{Premise}
 use Rattle.steps.specs.declared.opened.Opened.{Opened}
 use Rattle.steps.specs.declared.opened.Opened.the-variants.{Refused, Closed, One}
-use Rattle.steps.specs.Obligation.{Obligation, holds}
+use Rattle.steps.specs.Obligation.{Obligation}
 use Rattle.steps.specs.Rules.{alone, adding, addingBoth, servedBy}
 use Rattle.steps.specs.Step.{Rule, names, plain, unknown, rules, applied, opens, step}
 use Rattle.steps.proofs.Cases.{OfPremises, of-premises, truth-cases, affirmation-cases, served-cases, atom-cases, false-cases, implies-cases, and-cases, or-cases, says-cases, Each, _then_, getD-cases}
-use Rattle.steps.proofs.Holds.{holds-member}
 
 -- n names a hypothesis.
 pub record Named (es : List Entry) (hs : List ℕ) (n : ℕ) : Type 0 where
@@ -119,14 +120,14 @@ module _ (speaks : ℕ → ℕ → Bool) (es : List Entry) (hs : List ℕ) where
 -- The word w takes o to these premises: o is no deeper than the limit, and the rule of w's code applies with w's part.
 pub record Takes (speaks : ℕ → ℕ → Bool) (es : List Entry) (limit w : ℕ) (o : Obligation) (ps : List Premise) : Type 0 where
   pub fits : o .depth ≤ limit
-  pub applies : Applies speaks es (o .hypotheses) (w / 4096) (w % 4096) (o .goal) ps
+  pub applies : Applies speaks es (o .hypotheses) (upper w) (lower w) (o .goal) ps
 
 -- tests 10 to 14
 pub step-takes : (speaks : ℕ → ℕ → Bool) (es : List Entry) (limit w : ℕ) (o : Obligation)
     → OfPremises (Takes speaks es limit w o) (step speaks es limit w o)
 unfolding step opens
 step-takes speaks es limit w o =
-    let opened = code-applies speaks es (o .hypotheses) (w / 4096) (w % 4096) (o .goal) in
+    let opened = code-applies speaks es (o .hypotheses) (upper w) (lower w) (o .goal) in
     pick-cases (OfPremises (Takes speaks es limit w o)) (leb (o .depth) limit)
     (λ t. of-premises _ _ (opens speaks es w o) (λ ps a. record { fits = leb-true (o .depth) limit t; applies = a }) opened)
     (λ t. tt)

@@ -4,10 +4,10 @@ use Prim.Native.Nat.{ℕ, _<_}
 use mathlib.Core.Path.{_≡_, refl, sym, ap, subst}
 use mathlib.Core.List.{List, [], _∷_, _++_, List·Memᴰ·head, List·Memᴰ·tail, Memᴰ·of-map}
 use lib.ListN.{length}
+use Rattle.basics.specs.Membership.{_∈_}
+use Rattle.basics.proofs.Membership.{first, second, ⊆-left, ⊆-right}
 use Rattle.logic.specs.Proposition.{Proposition}
 use Rattle.logic.specs.Judgment.{Judgment, truth, _affirms_}
-use Rattle.logic.specs.Hypotheses.{_∈_}
-use Rattle.logic.proofs.Hypotheses.{first, second, ⊆-left, ⊆-right}
 use Rattle.table.specs.declared.entry.Entry.{Entry}
 use Rattle.table.specs.Entry.{formula, principal}
 use Rattle.table.specs.Spelled.{spell, spellAll}

@@ -5,12 +5,12 @@ use mathlib.Core.Bool.{Bool, true}
 use mathlib.Core.Path.{_≡_, refl}
 use mathlib.Core.List.{List, [], _∷_}
 use lib.ListN.{getD}
+use Rattle.basics.proofs.Choice.{pick-cases}
 use Rattle.table.specs.declared.entry.Atom as A
 use Rattle.table.specs.declared.entry.Formula.{Formula}
 use Rattle.table.specs.declared.entry.Principal.{Principal}
 use Rattle.table.specs.declared.entry.Entry.{Entry}
 use Rattle.table.specs.declared.entry.Entry.the-variants.{Atom, False, Implies, And, Or, Says, IllFormed}
-use Rattle.table.proofs.Choice.{pick-cases}
 use Rattle.steps.specs.declared.goal.Goal.{Goal}
 use Rattle.steps.specs.declared.goal.Goal.the-variants.{True, Affirms}
 use Rattle.steps.specs.declared.opened.Premise.{Premise}

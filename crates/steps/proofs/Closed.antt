@@ -7,13 +7,13 @@ use mathlib.Core.List.{List, [], _∷_, _++_, map}
 use lib.ListN.{length}
 use lib.Dec.{eqb}
 use borrow.Author.Tests.{eqb-true}
+use Rattle.basics.proofs.Choice.{pick-cases}
 use Rattle.table.specs.declared.entry.Entry.{Entry}
-use Rattle.table.proofs.Choice.{pick-cases}
 use Rattle.steps.specs.declared.opened.Premise.{Premise}
 use Rattle.steps.specs.declared.opened.Opened as O
 use Rattle.steps.specs.declared.opened.Opened.the-variants as Opening
-use Rattle.steps.specs.declared.verdict.Verdict.{Verdict}
-use Rattle.steps.specs.declared.verdict.Verdict.the-variants.{Closed, Refused}
+use Rattle.steps.specs.declared.verdict.WalkVerdict.{WalkVerdict}
+use Rattle.steps.specs.declared.verdict.WalkVerdict.the-variants.{Closed, Refused}
 use Rattle.steps.specs.Obligation.{Obligation, under}
 use Rattle.steps.specs.Step.{step}
 use Rattle.steps.specs.Run.{after, allUsed, walk, run}
@@ -26,7 +26,7 @@ pub refused-not-closed : {number p q : ℕ} → Refused number p ≡ Closed q �
 refused-not-closed e = let z : _≡_ {A = ℕ} 0 1 = cc in omega arith
 
 -- what follows a step that was not refused
-after-closed : (P : List Premise → Type 0) (x : O.Opened) (p q : ℕ) (next : List Premise → Verdict)
+after-closed : (P : List Premise → Type 0) (x : O.Opened) (p q : ℕ) (next : List Premise → WalkVerdict)
     → OfPremises P x → after x (λ number. Refused number p) next ≡ Closed q → (ps : List Premise) × P ps × (next ps ≡ Closed q)
 after-closed P (Opening.Refused number) p q next h e = absurd (refused-not-closed e)
 after-closed P Opening.Closed p q next h e = ([], h, e)
@@ -34,7 +34,7 @@ after-closed P (Opening.One a) p q next h e = (a ∷ [], h, e)
 after-closed P (Opening.Two a b) p q next h e = (a ∷ b ∷ [], h, e)
 
 -- all of n words were used
-all-used-closed : (n q : ℕ) (v : Verdict) → allUsed n v ≡ Closed q → (v ≡ Closed n) × (q ≡ n)
+all-used-closed : (n q : ℕ) (v : WalkVerdict) → allUsed n v ≡ Closed q → (v ≡ Closed n) × (q ≡ n)
 all-used-closed n q (Closed p) =
     pick-cases (λ v. v ≡ Closed q → (Closed p ≡ Closed n) × (q ≡ n)) (eqb p n)
     (λ t e. let f : p ≡ q = cc in (ap Closed (eqb-true p n t), sym f ∙ eqb-true p n t))

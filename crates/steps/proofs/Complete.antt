@@ -6,16 +6,16 @@ use mathlib.Core.Path.{refl}
 use mathlib.Core.List.{List, [], _∷_}
 use lib.ListN.{length}
 use borrow.Author.Tests.{eq-eqb}
+use Rattle.basics.specs.Membership.{_∈_}
+use Rattle.basics.proofs.Membership.{first, added}
+use Rattle.basics.specs.Limits.{mostFormulas}
 use Rattle.logic.specs.Proposition.{Proposition, atom, false, _implies_, _and_, _or_, _says_}
 use Rattle.logic.specs.Judgment.{Judgment, truth, _affirms_}
-use Rattle.logic.specs.Hypotheses.{_∈_}
 use Rattle.logic.specs.Principals.{Relation}
 use Rattle.logic.specs.Derivation.{Derivation, init, affirm, implies-right, implies-left, false-left, and-right, and-left, or-right-first, or-right-second, or-left, says-right, says-left}
 use Rattle.logic.specs.Depth.{depth}
-use Rattle.logic.proofs.Hypotheses.{first, added}
 use Rattle.logic.proofs.Depth.{steps}
 use Rattle.table.specs.declared.entry.Entry.{Entry}
-use Rattle.table.specs.Limits.{mostFormulas}
 use Rattle.table.specs.Number.{number}
 use Rattle.table.specs.Laws.{Ordered, Distinct}
 use Rattle.steps.specs.Obligation.{Obligation}

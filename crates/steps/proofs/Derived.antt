@@ -4,9 +4,10 @@ use Prim.Native.Nat.{ℕ, suc, _≤_}
 use mathlib.Core.Bool.{Bool}
 use mathlib.Core.Path.{_≡_, refl, sym, ap, subst, _∙_}
 use mathlib.Core.List.{List, _∷_, _++_, Memᴰ·cast}
+use Rattle.basics.specs.Membership.{_∈_}
+use Rattle.basics.specs.Word.{word}
 use Rattle.logic.specs.Proposition.{Proposition}
 use Rattle.logic.specs.Judgment.{Judgment, truth}
-use Rattle.logic.specs.Hypotheses.{_∈_}
 use Rattle.logic.specs.Principals.{Relation}
 use Rattle.logic.specs.Derivation.{Derivation}
 use Rattle.logic.specs.Depth.{stepDepths}
@@ -20,7 +21,7 @@ use Rattle.table.proofs.Number.{number-of}
 use Rattle.steps.specs.declared.goal.Goal.{Goal}
 use Rattle.steps.specs.declared.opened.Premise.{Premise}
 use Rattle.steps.specs.Obligation.{added}
-use Rattle.steps.specs.Words.{word, words}
+use Rattle.steps.specs.Words.{words}
 use Rattle.steps.specs.Carried.{judgment}
 use Rattle.steps.specs.Runs.{Decides}
 use Rattle.steps.proofs.Applies.{Named, Applies, init, affirm, implies-right, implies-left, false-left, and-right, and-left, or-right-first, or-right-second, or-left, says-right, says-left}

@@ -5,9 +5,9 @@ use native.Mathlib.Omega.{arith}
 use mathlib.Core.Path.{_≡_}
 use mathlib.Core.List.{List}
 use borrow.Author.Tests.{eq-eqb, eqb-true}
+use Rattle.basics.specs.declared.tested.Tested.the-variants.{Passed}
+use Rattle.basics.specs.Limits.{mostDepth}
 use Rattle.logic.specs.Figure1.{Same}
-use Rattle.table.specs.declared.check.Tested.the-variants.{Passed}
-use Rattle.table.specs.Limits.{mostDepth}
 use Rattle.table.specs.Tests.{entries, tableTests}
 use Rattle.table.proofs.Entries.{length-entries-equal}
 use Rattle.table.proofs.Passed.{passed-is-good}

@@ -5,11 +5,11 @@ use native.Mathlib.Omega.{arith}
 use mathlib.Core.Path.{_≡_, sym, ap, ap₂, _∙_}
 use mathlib.Core.List.{List}
 use lib.ListN.{length}
+use Rattle.basics.specs.Limits.{mostFormulas}
 use Rattle.logic.specs.Proposition.{Proposition, atom, false, _implies_, _and_, _or_, _says_}
 use Rattle.table.specs.declared.entry.Formula.{Formula}
 use Rattle.table.specs.declared.entry.Entry.{Entry}
 use Rattle.table.specs.declared.entry.Entry.the-variants.{Atom, False, Implies, And, Or, Says}
-use Rattle.table.specs.Limits.{mostFormulas}
 use Rattle.table.specs.Entry as E
 use Rattle.table.specs.Tests.{entryAt}
 use Rattle.table.specs.Spelled.{spell}

@@ -1,10 +1,10 @@
 -- The theorems whose statements are in specs/, and the lemmas behind them. What stands above leans on Cases and Applies (what holds of
 -- every rule's premises), Closed, Parts, Trace and Figure1. Assumes nothing.
 pub mod Cases
-pub mod Holds
 pub mod Applies
 pub mod Parts
 pub mod Closed
+pub mod Walked
 pub mod Prefix
 pub mod Alike
 pub mod Stops
@@ -12,7 +12,6 @@ pub mod Chain
 pub mod Begins
 pub mod Derived
 pub mod Sound
-pub mod Word
 pub mod Has
 pub mod Asks
 pub mod Uses
@@ -21,4 +20,5 @@ pub mod Complete
 pub mod Runs
 pub mod Trace
 pub mod Figure1
+pub mod Answer
 pub mod Samples

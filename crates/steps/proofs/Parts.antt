@@ -11,8 +11,8 @@ use Rattle.table.specs.declared.entry.Entry.{Entry}
 use Rattle.steps.specs.declared.opened.Premise.{Premise}
 use Rattle.steps.specs.declared.opened.Opened as O
 use Rattle.steps.specs.declared.opened.Opened.the-variants as Opening
-use Rattle.steps.specs.declared.verdict.Verdict.{Verdict}
-use Rattle.steps.specs.declared.verdict.Verdict.the-variants.{Closed, Refused}
+use Rattle.steps.specs.declared.verdict.WalkVerdict.{WalkVerdict}
+use Rattle.steps.specs.declared.verdict.WalkVerdict.the-variants.{Closed, Refused}
 use Rattle.steps.specs.Obligation.{Obligation, under}
 use Rattle.steps.specs.Step.{step}
 use Rattle.steps.specs.Run.{after, walk}
@@ -34,17 +34,17 @@ after-same Opening.Closed refused next other same = same _
 after-same (Opening.One a) refused next other same = same _
 after-same (Opening.Two a b) refused next other same = same _
 
-abbrev pub refusedAt : ℕ → ℕ → Verdict
+abbrev pub refusedAt : ℕ → ℕ → WalkVerdict
 refusedAt p number = Refused number p
 
 -- Two ways to go on from a verdict are one where they agree at its place.
-then-same : (v : Verdict) (next other : ℕ → Verdict) → ((q : ℕ) → v ≡ Closed q → next q ≡ other q) → andThen v next ≡ andThen v other
+then-same : (v : WalkVerdict) (next other : ℕ → WalkVerdict) → ((q : ℕ) → v ≡ Closed q → next q ≡ other q) → andThen v next ≡ andThen v other
 then-same (Closed q) next other same = same q refl
 then-same (Refused n p) next other same = refl
 
 module _ (speaks : ℕ → ℕ → Bool) (limit : ℕ) (es : List Entry) where
   -- what follows a step of o, with these premises
-  abbrev next : List ℕ → ℕ → Obligation → List Obligation → List Premise → Verdict
+  abbrev next : List ℕ → ℕ → Obligation → List Obligation → List Premise → WalkVerdict
   next ws p o os ps = walk speaks limit es ws (suc p) (map (under o) ps ++ os)
 
   pub uses-words : UsesWords speaks limit es
@@ -76,7 +76,7 @@ module _ (speaks : ℕ → ℕ → Bool) (limit : ℕ) (es : List Entry) where
   joined [] p (o ∷ os) qs = refl
   joined (w ∷ ws) p [] qs = let z : p - p ≡ 0 = omega arith in rw z
   joined (w ∷ ws) p (o ∷ os) qs =
-      let more : ℕ → Verdict = λ (q : ℕ). walk speaks limit es (drop (q - p) (w ∷ ws)) q qs in
+      let more : ℕ → WalkVerdict = λ (q : ℕ). walk speaks limit es (drop (q - p) (w ∷ ws)) q qs in
       after-same (step speaks es limit w o) (refusedAt p) (next ws p o (os ++ qs)) (λ ps. andThen (next ws p o os ps) more)
       (λ ps. rw (← append-assoc (map (under o) ps) os qs)
       (joined ws (suc p) (map (under o) ps ++ os) qs

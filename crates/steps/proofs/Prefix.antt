@@ -11,8 +11,8 @@ use Rattle.table.specs.declared.entry.Entry.{Entry}
 use Rattle.steps.specs.declared.opened.Premise.{Premise}
 use Rattle.steps.specs.declared.opened.Opened as O
 use Rattle.steps.specs.declared.opened.Opened.the-variants as Opening
-use Rattle.steps.specs.declared.verdict.Verdict.{Verdict}
-use Rattle.steps.specs.declared.verdict.Verdict.the-variants.{Closed, Refused}
+use Rattle.steps.specs.declared.verdict.WalkVerdict.{WalkVerdict}
+use Rattle.steps.specs.declared.verdict.WalkVerdict.the-variants.{Closed, Refused}
 use Rattle.steps.specs.Obligation.{Obligation, under}
 use Rattle.steps.specs.Step.{step}
 use Rattle.steps.specs.Run.{after, walk, run}
@@ -21,7 +21,7 @@ use Rattle.steps.proofs.Closed.{refused-not-closed, run-closed, closed-
 use Rattle.steps.proofs.Parts.{refusedAt, walk-done, uses-words}
 
 -- Where one way to go on from a step closes, so does another that closes wherever the first does.
-after-closes : (x : O.Opened) (p q : ℕ) (next other : List Premise → Verdict) → ((ps : List Premise) → next ps ≡ Closed q → other ps ≡ Closed q)
+after-closes : (x : O.Opened) (p q : ℕ) (next other : List Premise → WalkVerdict) → ((ps : List Premise) → next ps ≡ Closed q → other ps ≡ Closed q)
     → after x (refusedAt p) next ≡ Closed q → after x (refusedAt p) other ≡ Closed q
 after-closes (Opening.Refused n) p q next other f e = absurd (refused-not-closed e)
 after-closes Opening.Closed p q next other f e = f _ e

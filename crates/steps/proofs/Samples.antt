@@ -1,9 +1,9 @@
 -- The samples hold, by computation. Assumes nothing.
 use mathlib.Core.Path.{refl}
+use Rattle.basics.specs.Membership.{holds}
 use Rattle.table.specs.Entry.{entry}
 use Rattle.table.specs.Tests.{entries}
 use Rattle.table.specs.Spelled.{spelled, spelledAfter}
-use Rattle.steps.specs.Obligation.{holds}
 use Rattle.steps.specs.Step.{opens, step}
 use Rattle.steps.specs.Run.{walk, run}
 use Rattle.steps.specs.Trace.{trace}

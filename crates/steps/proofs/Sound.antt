@@ -2,20 +2,20 @@
 -- of the obligation. Each is from any hypotheses that cover the obligation's, so that nothing has to be weakened. Assumes nothing.
 use Prim.Native.Nat.{ℕ, suc, _+_}
 use native.Mathlib.Omega.{arith}
-use native.Mathlib.Nat.{div-add-mod'}
 use mathlib.Core.Bool.{Bool}
 use mathlib.Core.Path.{_≡_, refl, _∙_}
 use mathlib.Core.Logic.{⊎-elim}
 use mathlib.Core.List.{List, [], _∷_, _++_, map, Memᴰ·map, List·Memᴰ·append-cases}
 use lib.ListN.{length, drop-of-length-le}
+use Rattle.basics.proofs.Words.{word-of-both}
+use Rattle.basics.proofs.Membership.{⊆-left, ⊆-right}
 use Rattle.logic.specs.Proposition.{Proposition}
 use Rattle.logic.specs.Principals.{Relation}
-use Rattle.logic.proofs.Hypotheses.{⊆-left, ⊆-right}
 use Rattle.table.specs.declared.entry.Entry.{Entry}
 use Rattle.table.specs.Spelled.{spell, spellAll}
 use Rattle.table.specs.Laws.{Ordered, Distinct}
 use Rattle.steps.specs.declared.opened.Premise.{Premise}
-use Rattle.steps.specs.declared.verdict.Verdict.the-variants.{Closed}
+use Rattle.steps.specs.declared.verdict.WalkVerdict.the-variants.{Closed}
 use Rattle.steps.specs.Obligation.{Obligation, added, under}
 use Rattle.steps.specs.Run.{walk}
 use Rattle.steps.specs.Carried.{judgment, Carried}
@@ -55,7 +55,7 @@ module _ (R : Relation) (limit : ℕ) (es : List Entry) where
     step-sound w o ps t ws rest chain Γ covers =
         let over = premises o Γ covers ps ws rest chain in
         let made = derived R limit es ordered distinct speaks decides Γ (o .hypotheses) covers (o .depth) (t .fits) (t .applies) over in
-        rw (div-add-mod' w 4096) at made
+        rw (word-of-both w) at made
 
     -- A walk that closes at q: the words from q on are the rest.
     pub walk-sound : (ws : List ℕ) (p q : ℕ) (os : List Obligation) → walk speaks limit es ws p os ≡ Closed q

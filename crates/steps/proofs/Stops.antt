@@ -10,13 +10,13 @@ use lib.ListN.{length, take, drop, take-append-drop}
 use lib.Seq.{take-length, length-take-le}
 use lib.Dec.{eqb}
 use borrow.Author.Tests.{ne-eqb, eqb-false}
+use Rattle.basics.proofs.Choice.{pick-cases}
 use Rattle.table.specs.declared.entry.Entry.{Entry}
-use Rattle.table.proofs.Choice.{pick-cases}
 use Rattle.steps.specs.declared.opened.Premise.{Premise}
 use Rattle.steps.specs.declared.opened.Opened as O
 use Rattle.steps.specs.declared.opened.Opened.the-variants as Opening
-use Rattle.steps.specs.declared.verdict.Verdict.{Verdict}
-use Rattle.steps.specs.declared.verdict.Verdict.the-variants.{Closed, Refused}
+use Rattle.steps.specs.declared.verdict.WalkVerdict.{WalkVerdict}
+use Rattle.steps.specs.declared.verdict.WalkVerdict.the-variants.{Closed, Refused}
 use Rattle.steps.specs.Obligation.{Obligation, under}
 use Rattle.steps.specs.Step.{step}
 use Rattle.steps.specs.Run.{after, allUsed, walk, run}
@@ -41,7 +41,7 @@ module _ (speaks : ℕ → ℕ → Bool) (limit : ℕ) (es : List Entry) where
   further k {ws = ws} same (p, f, left-over n b l) = (suc p, omega arith, left-over n (omega arith) (same (take p ws) ∙ l))
 
   -- what follows a step at k
-  after-stops : (w : ℕ) (ws : List ℕ) (k : ℕ) (o : Obligation) (os : List Obligation) (n number q : ℕ) (x : O.Opened) (next : List Premise → Verdict)
+  after-stops : (w : ℕ) (ws : List ℕ) (k : ℕ) (o : Obligation) (os : List Obligation) (n number q : ℕ) (x : O.Opened) (next : List Premise → WalkVerdict)
       → step speaks es limit w o ≡ x
       → ((ps : List Premise) → allUsed n (next ps) ≡ Refused number q → StopFrom (suc k) ws (map (under o) ps ++ os) number q)
       → allUsed n (after x (refusedAt k) next) ≡ Refused number q → StopFrom k (w ∷ ws) (o ∷ os) number q
@@ -72,7 +72,7 @@ module _ (speaks : ℕ → ℕ → Bool) (limit : ℕ) (es : List Entry) where
   -- ---- a stop is a refusal
 
   -- what follows a step that leaves `rest` with the words after it
-  after-leaves : (x : O.Opened) (k : ℕ) (rest : List Obligation) (v : Verdict) (next : List Premise → Verdict) (left : List Premise → Option (List Obligation))
+  after-leaves : (x : O.Opened) (k : ℕ) (rest : List Obligation) (v : WalkVerdict) (next : List Premise → WalkVerdict) (left : List Premise → Option (List Obligation))
       → ((ps : List Premise) → left ps ≡ some rest → next ps ≡ v)
       → after x (λ number. none) left ≡ some rest → after x (refusedAt k) next ≡ v
   after-leaves (Opening.Refused number) k rest v next left h e = absurd (Option·none-ne-some rest e)

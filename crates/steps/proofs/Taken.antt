@@ -8,19 +8,20 @@ use mathlib.Core.Option.{Option, none, some}
 use mathlib.Core.List.{List}
 use lib.ListN.{length, getD}
 use borrow.Author.Tests.{le-leb, lt-ltb}
+use Rattle.basics.specs.Membership.{_∈_}
+use Rattle.basics.proofs.Membership.{holds-member}
+use Rattle.basics.specs.Word.{word}
+use Rattle.basics.specs.Word.{radix}
+use Rattle.basics.proofs.Words.{both-of-word}
 use Rattle.logic.specs.Proposition.{Proposition}
 use Rattle.logic.specs.Judgment.{Judgment}
-use Rattle.logic.specs.Hypotheses.{_∈_}
 use Rattle.table.specs.declared.entry.Entry.{Entry}
 use Rattle.table.specs.Number.{number}
 use Rattle.steps.specs.declared.goal.Goal.{Goal}
 use Rattle.steps.specs.declared.opened.Opened.{Opened}
 use Rattle.steps.specs.Obligation.{Obligation}
 use Rattle.steps.specs.Step.{Rule, names, plain, unknown, rules, applied, opens, step}
-use Rattle.steps.specs.Words.{word}
 use Rattle.steps.specs.Trace.{line, namedBy}
-use Rattle.steps.proofs.Word.{word-code, word-part}
-use Rattle.steps.proofs.Holds.{holds-member}
 use Rattle.steps.proofs.Uses.{Taken}
 use Rattle.steps.proofs.Has.{Passed}
 use Rattle.steps.proofs.Asks.{goalOf, Asks, asked}
@@ -28,13 +29,13 @@ use Rattle.steps.proofs.Asks.{goalOf, Asks, asked}
 module _ (speaks : ℕ → ℕ → Bool) {limit : ℕ} {es : List Entry} (t : Passed es) {o : Obligation} {Γ : List Proposition} {γ : Judgment}
     (q : Asks es o Γ γ) (shallow : o .depth ≤ limit) (code : ℕ) where
   -- the rule of this code, with a part: what it names and what it opens
-  taken : (part : ℕ) → part < 4096 → {rule : Rule} {named : Option Proposition} {x : Opened} → getD (rules speaks es) code unknown ≡ rule
+  taken : (part : ℕ) → part < radix → {rule : Rule} {named : Option Proposition} {x : Opened} → getD (rules speaks es) code unknown ≡ rule
       → namedBy es rule part ≡ named → applied speaks es rule (o .hypotheses) part (goalOf es γ) ≡ x
       → Taken speaks limit es (word code part) (line code named γ) o x
   unfolding step opens
   taken part fits is names-it applies = record {
-    has-line = rw (word-code code part fits, word-part code part fits, is, names-it, asked q);
-    opens = rw (le-leb (o .depth) limit, word-code code part fits, word-part code part fits, is, q .goal-is, applies);
+    has-line = rw (both-of-word code part fits .0, both-of-word code part fits .1, is, names-it, asked q);
+    opens = rw (le-leb (o .depth) limit, both-of-word code part fits .0, both-of-word code part fits .1, is, q .goal-is, applies);
   }
 
   -- a rule that names nothing

@@ -11,8 +11,8 @@ use Rattle.table.specs.declared.entry.Entry.{Entry}
 use Rattle.steps.specs.declared.opened.Premise.{Premise}
 use Rattle.steps.specs.declared.opened.Opened as O
 use Rattle.steps.specs.declared.opened.Opened.the-variants as Opening
-use Rattle.steps.specs.declared.verdict.Verdict.{Verdict}
-use Rattle.steps.specs.declared.verdict.Verdict.the-variants.{Closed, Refused}
+use Rattle.steps.specs.declared.verdict.WalkVerdict.{WalkVerdict}
+use Rattle.steps.specs.declared.verdict.WalkVerdict.the-variants.{Closed, Refused}
 use Rattle.steps.specs.Obligation.{Obligation, under}
 use Rattle.steps.specs.Step.{step}
 use Rattle.steps.specs.Run.{after, walk}
@@ -23,7 +23,7 @@ use Rattle.steps.proofs.Uses.{traced}
 use Rattle.steps.proofs.Complete.{carried}
 
 -- Where the walk closes after a step, the lines count as they do with its premises.
-after-counted : (x : O.Opened) (p q n : ℕ) (next : List Premise → Verdict) (ls : List Premise → List Line)
+after-counted : (x : O.Opened) (p q n : ℕ) (next : List Premise → WalkVerdict) (ls : List Premise → List Line)
     → ((ps : List Premise) → next ps ≡ Closed q → n + length (ls ps) ≡ q) → after x (λ number. Refused number p) next ≡ Closed q → n + length (after x (λ number. []) ls) ≡ q
 after-counted (Opening.Refused number) p q n next ls h e = absurd (refused-not-closed e)
 after-counted Opening.Closed p q n next ls h e = h _ e

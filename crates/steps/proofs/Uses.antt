@@ -11,7 +11,7 @@ use Rattle.table.specs.declared.entry.Entry.{Entry}
 use Rattle.steps.specs.declared.opened.Premise.{Premise}
 use Rattle.steps.specs.declared.opened.Opened.{Opened}
 use Rattle.steps.specs.declared.opened.Opened.the-variants.{Closed, One, Two}
-use Rattle.steps.specs.declared.verdict.Verdict.{Verdict}
+use Rattle.steps.specs.declared.verdict.WalkVerdict.{WalkVerdict}
 use Rattle.steps.specs.Obligation.{Obligation, under}
 use Rattle.steps.specs.Step.{step}
 use Rattle.steps.specs.Run.{after, walk, run}
@@ -58,7 +58,7 @@ module _ {speaks : ℕ → ℕ → Bool} {limit : ℕ} {es : List Entry} where
       → Uses speaks limit es ws ls (map (under o) premises) → Uses speaks limit es (w ∷ ws) (l ∷ ls) (o ∷ [])
   unfolding walk trace
   stepped premises t is on u = record {
-    uses = λ rest p q more g. rw (t .opens, is, on Verdict) (u .uses rest (suc p) q more (omega arith));
+    uses = λ rest p q more g. rw (t .opens, is, on WalkVerdict) (u .uses rest (suc p) q more (omega arith));
     gives = λ rest more. rw (t .has-line, t .opens, is, on (List Line), u .gives rest more);
   }
 

@@ -6,9 +6,9 @@ use mathlib.Core.Path.{_≡_}
 use mathlib.Core.Logic.{_↔_}
 use mathlib.Core.List.{List, [], _∷_}
 use lib.ListN.{length}
-use Rattle.logic.specs.Hypotheses.{_∈_}
+use Rattle.basics.specs.Membership.{_∈_}
 use Rattle.table.specs.declared.entry.Entry.{Entry}
-use Rattle.steps.specs.declared.verdict.Verdict.the-variants.{Refused}
+use Rattle.steps.specs.declared.verdict.WalkVerdict.the-variants.{Refused}
 use Rattle.steps.specs.Obligation.{Obligation}
 use Rattle.steps.specs.Run.{run}
 

@@ -4,8 +4,8 @@ use Prim.Native.Nat.{ℕ, _≤_, _<_}
 use mathlib.Core.Path.{_≡_}
 use mathlib.Core.List.{List, [], _∷_, _++_}
 use lib.ListN.{length}
+use Rattle.basics.specs.Membership.{_∈_}
 use Rattle.logic.specs.Judgment.{Judgment, truth, _affirms_}
-use Rattle.logic.specs.Hypotheses.{_∈_}
 use Rattle.logic.specs.Principals.{Relation}
 use Rattle.logic.specs.Derivation.{Derivation}
 use Rattle.logic.specs.Depth.{stepDepths}

@@ -8,15 +8,15 @@ use mathlib.Core.List.{List, [], _∷_}
 use mathlib.Core.Option.{Option}
 use lib.ListN.{length}
 use lib.Dec.{eqb}
-use Rattle.logic.specs.Hypotheses.{_∈_}
+use Rattle.basics.specs.Membership.{_∈_}
+use Rattle.basics.specs.declared.tested.Tested.the-variants.{Passed}
+use Rattle.basics.specs.Limits.{mostDepth}
 use Rattle.logic.specs.Figure1.{Same}
 use Rattle.table.specs.declared.entry.Entry.{Entry}
-use Rattle.table.specs.declared.check.Tested.the-variants.{Passed}
-use Rattle.table.specs.Limits.{mostDepth}
 use Rattle.table.specs.Tests.{entries, tableTests}
 use Rattle.steps.specs.declared.opened.Opened.{Opened}
-use Rattle.steps.specs.declared.verdict.Verdict.{Verdict}
-use Rattle.steps.specs.declared.verdict.Verdict.the-variants.{Closed, Refused}
+use Rattle.steps.specs.declared.verdict.WalkVerdict.{WalkVerdict}
+use Rattle.steps.specs.declared.verdict.WalkVerdict.the-variants.{Closed, Refused}
 use Rattle.steps.specs.Obligation.{Obligation}
 use Rattle.steps.specs.Step as Any
 use Rattle.steps.specs.Run as AnyRun
@@ -34,10 +34,10 @@ same K L = eqb K L
 abbrev pub step : List Entry → ℕ → Obligation → Opened
 step es w o = Any.step same es mostDepth w o
 
-abbrev pub walk : List Entry → List ℕ → ℕ → List Obligation → Verdict
+abbrev pub walk : List Entry → List ℕ → ℕ → List Obligation → WalkVerdict
 walk es ws p os = AnyRun.walk same mostDepth es ws p os
 
-abbrev pub run : List Entry → List ℕ → List Obligation → Verdict
+abbrev pub run : List Entry → List ℕ → List Obligation → WalkVerdict
 run es ws os = AnyRun.run same mostDepth es ws os
 
 abbrev pub leave : List Entry → List ℕ → List Obligation → Option (List Obligation)

@@ -13,4 +13,5 @@ pub mod Carried
 pub mod Runs
 pub mod Trace
 pub mod Figure1
+pub mod Answer
 pub mod Samples

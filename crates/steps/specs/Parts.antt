@@ -7,24 +7,24 @@ use mathlib.Core.Logic.{_↔_}
 use mathlib.Core.List.{List, _++_}
 use lib.ListN.{length, take, drop}
 use Rattle.table.specs.declared.entry.Entry.{Entry}
-use Rattle.steps.specs.declared.verdict.Verdict.{Verdict}
-use Rattle.steps.specs.declared.verdict.Verdict.the-variants.{Closed, Refused}
+use Rattle.steps.specs.declared.verdict.WalkVerdict.{WalkVerdict}
+use Rattle.steps.specs.declared.verdict.WalkVerdict.the-variants.{Closed, Refused}
 use Rattle.steps.specs.Obligation.{Obligation}
 use Rattle.steps.specs.Run.{walk, run}
 
 -- closed at a place: go on from there; a refusal stands
-abbrev pub andThen : Verdict → (ℕ → Verdict) → Verdict
+abbrev pub andThen : WalkVerdict → (ℕ → WalkVerdict) → WalkVerdict
 andThen (Closed q) next = next q
 andThen (Refused number p) next = Refused number p
 
 -- the same verdict, k places further on
-abbrev pub later : ℕ → Verdict → Verdict
+abbrev pub later : ℕ → WalkVerdict → WalkVerdict
 later k (Closed q) = Closed (q + k)
 later k (Refused number p) = Refused number (p + k)
 
 module _ (speaks : ℕ → ℕ → Bool) (limit : ℕ) (es : List Entry) where
   -- the walk through a file's step words from place p on
-  abbrev pub walkFrom : List ℕ → ℕ → List Obligation → Verdict
+  abbrev pub walkFrom : List ℕ → ℕ → List Obligation → WalkVerdict
   walkFrom steps p os = walk speaks limit es (drop p steps) p os
 
   -- "Each proof begins at the word after the last one." (01)

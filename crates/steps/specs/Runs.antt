@@ -6,12 +6,12 @@ use mathlib.Core.Path.{_≡_}
 use mathlib.Core.Logic.{_↔_}
 use mathlib.Core.List.{List}
 use lib.ListN.{length}
-use Rattle.logic.specs.Hypotheses.{_∈_}
+use Rattle.basics.specs.Membership.{_∈_}
+use Rattle.basics.specs.Limits.{mostFormulas}
 use Rattle.logic.specs.Principals.{Relation}
 use Rattle.table.specs.declared.entry.Entry.{Entry}
-use Rattle.table.specs.Limits.{mostFormulas}
 use Rattle.table.specs.Laws.{Ordered, Distinct}
-use Rattle.steps.specs.declared.verdict.Verdict.the-variants.{Closed}
+use Rattle.steps.specs.declared.verdict.WalkVerdict.the-variants.{Closed}
 use Rattle.steps.specs.Obligation.{Obligation}
 use Rattle.steps.specs.Run.{run}
 use Rattle.steps.specs.Carried.{Carried, InTable}

@@ -9,9 +9,9 @@ use Rattle.logic.specs.Proposition.{atom, _says_}
 use Rattle.logic.specs.Judgment.{truth, _affirms_}
 use Rattle.table.specs.declared.entry.Entry.{Entry}
 use Rattle.table.specs.Tests.{entries}
-use Rattle.steps.specs.declared.verdict.Verdict.{Verdict}
-use Rattle.steps.specs.declared.verdict.Verdict.the-variants.{Closed, Refused}
-use Rattle.steps.specs.Obligation.{Obligation, due}
+use Rattle.steps.specs.declared.verdict.WalkVerdict.{WalkVerdict}
+use Rattle.steps.specs.declared.verdict.WalkVerdict.the-variants.{Closed, Refused}
+use Rattle.steps.specs.Obligation.{Obligation, obligation}
 use Rattle.steps.specs.Trace.{Line, line}
 use Rattle.steps.specs.Figure1.{run, trace}
 
@@ -19,13 +19,13 @@ use Rattle.steps.specs.Figure1.{run, trace}
 pub record Sample : Type 0 where
   pub obligations : List Obligation
   pub steps : List ℕ
-  pub verdict : Verdict
+  pub verdict : WalkVerdict
 
-abbrev pub row : List Obligation → List ℕ → Verdict → Sample
+abbrev pub row : List Obligation → List ℕ → WalkVerdict → Sample
 row obligations steps verdict = record { obligations = obligations; steps = steps; verdict = verdict }
 
-abbrev pub sample : List ℕ → ℕ → List ℕ → Verdict → Sample
-sample statements goal steps verdict = row (due statements goal ∷ []) steps verdict
+abbrev pub sample : List ℕ → ℕ → List ℕ → WalkVerdict → Sample
+sample statements goal steps verdict = row (obligation statements goal ∷ []) steps verdict
 
 -- the machine gives each row's verdict
 abbrev pub Hold : List Entry → List Sample → Type 0
@@ -80,7 +80,7 @@ Order = Hold T order
 
 -- "Depth 512 passes and 513 is refused 10". The table is atom 0, and atom 0 and atom 0; statement 1, goal 0; and left n times, then the last
 -- words. In order: 512 deep; 513 deep; the words end at depth 513, 9 before 10; and an unknown code at depth 513, 10 before 11.
-abbrev pub deep : ℕ → List ℕ → Verdict → Sample
+abbrev pub deep : ℕ → List ℕ → WalkVerdict → Sample
 deep n last verdict = sample (1 ∷ []) 0 (replicate n 24577 ++ last) verdict
 
 abbrev pub depths : List Sample
@@ -93,18 +93,18 @@ Depths = Hold (entries (0 ∷ 12288 ∷ []) (0 ∷ 0 ∷ [])) depths
 -- two proofs of which the words end in the second, or before it; a word too many between them, which is the second's first; a word after
 -- the last, and after none; and O, "table atom 0, atom 1, statement 1, goal 0, step 1: refused 13 at 0".
 abbrev pub both : List Obligation
-both = due (2 ∷ []) 0 ∷ due (2 ∷ []) 1 ∷ []
+both = obligation (2 ∷ []) 0 ∷ obligation (2 ∷ []) 1 ∷ []
 
 abbrev pub exchange : List Sample
 exchange =
-    row (due (2 ∷ []) 0 ∷ due (2 ∷ []) 1 ∷ due (0 ∷ 1 ∷ []) 2 ∷ []) (24578 ∷ 0 ∷ 24578 ∷ 1 ∷ 20480 ∷ 0 ∷ 1 ∷ []) (Closed 7)
+    row (obligation (2 ∷ []) 0 ∷ obligation (2 ∷ []) 1 ∷ obligation (0 ∷ 1 ∷ []) 2 ∷ []) (24578 ∷ 0 ∷ 24578 ∷ 1 ∷ 20480 ∷ 0 ∷ 1 ∷ []) (Closed 7)
     ∷ row [] [] (Closed 0)
     ∷ row both (24578 ∷ 0 ∷ 24578 ∷ []) (Refused 9 3)
     ∷ row both (24578 ∷ 0 ∷ []) (Refused 9 2)
     ∷ row both (24578 ∷ 0 ∷ 0 ∷ 24578 ∷ 1 ∷ []) (Refused 12 2)
     ∷ row both (24578 ∷ 0 ∷ 24578 ∷ 1 ∷ 0 ∷ []) (Refused 15 4)
     ∷ row [] (0 ∷ []) (Refused 15 0)
-    ∷ row (due (1 ∷ []) 0 ∷ []) (1 ∷ []) (Refused 13 0)
+    ∷ row (obligation (1 ∷ []) 0 ∷ []) (1 ∷ []) (Refused 13 0)
     ∷ []
 
 abbrev pub Exchange : Type 0

@@ -9,7 +9,7 @@ use mathlib.Core.Option.{Option, none, some}
 use lib.ListN.{length, getD, take}
 use Rattle.table.specs.declared.entry.Entry.{Entry}
 use Rattle.steps.specs.declared.opened.Opened.the-variants as Opening
-use Rattle.steps.specs.declared.verdict.Verdict.the-variants.{Refused}
+use Rattle.steps.specs.declared.verdict.WalkVerdict.the-variants.{Refused}
 use Rattle.steps.specs.Obligation.{Obligation, under}
 use Rattle.steps.specs.Step.{step}
 use Rattle.steps.specs.Run.{after, run}

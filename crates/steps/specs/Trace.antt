@@ -1,18 +1,19 @@
 -- The trace of a walk: a line for each word, with propositions as trees and no formula numbers. Proved in proofs/Trace.antt. Assumes
 -- nothing.
-use Prim.Native.Nat.{ℕ, _/_, _%_, _≤_}
+use Prim.Native.Nat.{ℕ, _≤_}
 use mathlib.Core.Bool.{Bool}
 use mathlib.Core.Path.{_≡_}
 use mathlib.Core.Option.{Option, none, some}
 use mathlib.Core.List.{List, [], _∷_, _++_, map}
 use lib.ListN.{length, getD}
+use Rattle.basics.specs.Membership.{_∈_}
+use Rattle.basics.specs.Limits.{mostFormulas}
+use Rattle.basics.specs.Word.{upper, lower}
 use Rattle.logic.specs.Proposition.{Proposition, atom, false, _implies_, _and_, _or_, _says_}
 use Rattle.logic.specs.Judgment.{Judgment}
-use Rattle.logic.specs.Hypotheses.{_∈_}
 use Rattle.logic.specs.Principals.{Relation}
 use Rattle.logic.specs.Derivation.{Derivation, init, affirm, implies-right, implies-left, false-left, and-right, and-left, or-right-first, or-right-second, or-left, says-right, says-left}
 use Rattle.table.specs.declared.entry.Entry.{Entry}
-use Rattle.table.specs.Limits.{mostFormulas}
 use Rattle.table.specs.Laws.{Ordered, Distinct}
 use Rattle.table.specs.Spelled.{spell}
 use Rattle.steps.specs.Obligation.{Obligation, under}
@@ -63,7 +64,7 @@ namedBy es unknown n = none
 
 -- the line of a word at an obligation
 abbrev pub lineOf : (ℕ → ℕ → Bool) → List Entry → ℕ → Obligation → Line
-lineOf speaks es w o = line (w / 4096) (namedBy es (getD (rules speaks es) (w / 4096) unknown) (w % 4096)) (judgment es (o .goal))
+lineOf speaks es w o = line (upper w) (namedBy es (getD (rules speaks es) (upper w) unknown) (lower w)) (judgment es (o .goal))
 
 module _ (speaks : ℕ → ℕ → Bool) (limit : ℕ) (es : List Entry) where
   -- A line for each word while something is open, as far as the first that is refused.

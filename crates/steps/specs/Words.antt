@@ -1,16 +1,14 @@
 -- The words of a derivation, from 01's table alone: "The steps are the derivation from the goal upward: each step is followed by all of
 -- its first premise, then its second." `number` gives the number of a proposition. Assumes nothing.
-use Prim.Native.Nat.{ℕ, _+_, _*_}
+use Prim.Native.Nat.{ℕ}
 use mathlib.Core.List.{List, [], _∷_, _++_}
+use Rattle.basics.specs.Word.{word}
 use Rattle.logic.specs.Proposition.{Proposition, atom, false, _implies_, _and_, _or_, _says_}
 use Rattle.logic.specs.Judgment.{Judgment}
 use Rattle.logic.specs.Principals.{Relation}
 use Rattle.logic.specs.Derivation.{Derivation, init, affirm, implies-right, implies-left, false-left, and-right, and-left, or-right-first, or-right-second, or-left, says-right, says-left}
 
 -- "A step word is code × 4,096 + the named formula's number; where the rule names none that part is 0."
-abbrev pub word : ℕ → ℕ → ℕ
-word code part = code * 4096 + part
-
 module _ {R : Relation} (number : Proposition → ℕ) where
   abbrev pub words : {Γ : List Proposition} {γ : Judgment} → Derivation R Γ γ → List ℕ
   words (init {a = a} m) = word 0 (number (atom a)) ∷ []

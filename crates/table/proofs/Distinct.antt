@@ -6,12 +6,12 @@ use mathlib.Core.Path.{_≡_, sym, _∙_}
 use mathlib.Core.List.{List}
 use lib.ListN.{length}
 use borrow.Author.Tests.{eq-eqb}
-use Rattle.table.specs.declared.place.Place.the-variants.{Nowhere}
-use Rattle.table.specs.First.{first, found}
+use Rattle.basics.specs.declared.place.Place.the-variants.{Nowhere}
+use Rattle.basics.specs.First.{first, found}
+use Rattle.basics.proofs.Choice.{both-true}
+use Rattle.basics.proofs.First.{no-place, not-found}
 use Rattle.table.specs.Tests.{entries, entryAt, same, repeatedEntry}
 use Rattle.table.specs.Laws.{Ordered, NoFaultDistinct}
-use Rattle.table.proofs.Choice.{both-true}
-use Rattle.table.proofs.First.{no-place, not-found}
 use Rattle.table.proofs.Entries.{length-entries-equal, entry-at, entry-fixes}
 use Rattle.table.proofs.Ordered.{well-formed}
 

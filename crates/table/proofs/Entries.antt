@@ -1,18 +1,19 @@
 -- A table of two arrays, entry by entry, and what an entry keeps of its head and second. Assumes nothing.
-use Prim.Native.Nat.{ℕ, zero, suc, _+_, _*_, _/_, _%_, _<_, _≤_, min}
+use Prim.Native.Nat.{ℕ, zero, suc, _<_, _≤_, min}
 use native.Mathlib.Omega.{arith}
-use native.Mathlib.Nat.{div-add-mod'}
 use mathlib.Core.Path.{_≡_, refl, sym, ap, ap₂, _∙_}
 use mathlib.Core.List.{List, [], _∷_}
 use lib.ListN.{length, getD, List·getD-eq-default}
 use lib.Dec.{eqb}
 use borrow.Author.Tests.{eqb-true}
+use Rattle.basics.specs.Choice.{both}
+use Rattle.basics.specs.Word.{word, upper, lower}
+use Rattle.basics.proofs.Words.{word-of-both}
+use Rattle.basics.proofs.Choice.{both-true, pick-cases}
 use Rattle.table.specs.declared.entry.Entry.{Entry}
 use Rattle.table.specs.declared.entry.Entry.the-variants.{Atom, False, Implies, And, Or, Says, IllFormed}
-use Rattle.table.specs.Choice.{both}
 use Rattle.table.specs.Entry.{kinds, entry}
 use Rattle.table.specs.Tests.{entries, entryAt}
-use Rattle.table.proofs.Choice.{both-true, pick-cases}
 
 -- ---- the entries of two arrays
 
@@ -43,12 +44,12 @@ no-entry hs ss n l = List·getD-eq-default (entries hs ss) IllFormed (omega (ari
 
 -- the head and the second that spell an entry out
 abbrev pub words : Entry → ℕ × ℕ
-words (Atom a) = (0 * 4096 + a .0, 0)
-words False = (1 * 4096 + 0, 0)
-words (Implies f g) = (2 * 4096 + f .0, g .0)
-words (And f g) = (3 * 4096 + f .0, g .0)
-words (Or f g) = (4 * 4096 + f .0, g .0)
-words (Says k f) = (5 * 4096 + k .0, f .0)
+words (Atom a) = (word 0 (a .0), 0)
+words False = (word 1 0, 0)
+words (Implies f g) = (word 2 (f .0), g .0)
+words (And f g) = (word 3 (f .0), g .0)
+words (Or f g) = (word 4 (f .0), g .0)
+words (Says k f) = (word 5 (k .0), f .0)
 words IllFormed = (0, 0)
 
 -- The entry has these words, unless it is ill-formed.
@@ -60,14 +61,14 @@ ill-formed : {head second : ℕ} → Keeps head second IllFormed
 ill-formed formed = absurd (formed refl)
 
 -- kind by kind, in the order of `kinds`
-keeps-by-kind : (kind one two : ℕ) → Keeps (kind * 4096 + one) two (getD (kinds one two) kind IllFormed)
+keeps-by-kind : (kind one two : ℕ) → Keeps (word kind one) two (getD (kinds one two) kind IllFormed)
 keeps-by-kind zero one two =
-    pick-cases (Keeps (0 * 4096 + one) two) (eqb two 0)
-    (λ t formed. ap (λ b. (0 * 4096 + one, b)) (sym (eqb-true two 0 t)))
+    pick-cases (Keeps (word 0 one) two) (eqb two 0)
+    (λ t formed. ap (λ b. (word 0 one, b)) (sym (eqb-true two 0 t)))
     (λ t. ill-formed)
 keeps-by-kind (suc zero) one two =
-    pick-cases (Keeps (1 * 4096 + one) two) (both (eqb one 0) (eqb two 0))
-    (λ t formed. let (p, q) = both-true _ _ .0 t in ap₂ (λ a b. (1 * 4096 + a, b)) (sym (eqb-true one 0 p)) (sym (eqb-true two 0 q)))
+    pick-cases (Keeps (word 1 one) two) (both (eqb one 0) (eqb two 0))
+    (λ t formed. let (p, q) = both-true _ _ .0 t in ap₂ (λ a b. (word 1 a, b)) (sym (eqb-true one 0 p)) (sym (eqb-true two 0 q)))
     (λ t. ill-formed)
 keeps-by-kind (suc (suc zero)) one two = λ formed. refl
 keeps-by-kind (suc (suc (suc zero))) one two = λ formed. refl
@@ -78,7 +79,7 @@ keeps-by-kind (suc (suc (suc (suc (suc (suc kind)))))) one two = ill-formed
 -- An entry keeps its head and second.
 pub keeps : (h s : ℕ) → Keeps h s (entry h s)
 unfolding entry
-keeps h s formed = rw (div-add-mod' h 4096) at (keeps-by-kind (h / 4096) (h % 4096) s formed)
+keeps h s formed = rw (word-of-both h) at (keeps-by-kind (upper h) (lower h) s formed)
 
 -- So a well-formed entry fixes its head and second.
 pub entry-fixes : (h s h′ s′ : ℕ) → entry h s ≡ entry h′ s′ → ¬ (entry h s ≡ IllFormed) → (h ≡ h′) × (s ≡ s′)

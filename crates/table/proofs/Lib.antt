@@ -1,7 +1,5 @@
 -- The theorems whose statements are in specs/, and the lemmas behind them and behind the code, here and in `table_check`. What stands above
 -- leans on Shapes besides.
-pub mod Choice
-pub mod First
 pub mod Entries
 pub mod Ordered
 pub mod Spelled
@@ -10,4 +8,7 @@ pub mod Shapes
 pub mod Number
 pub mod Answers
 pub mod Passed
+pub mod Unlike
+pub mod TableTests
+pub mod Reasons
 pub mod Samples

@@ -1,39 +1,19 @@
 -- A table that passes its tests. Assumes nothing.
-use Prim.Native.Nat.{ℕ}
-use native.Mathlib.Omega.{arith}
-use mathlib.Core.Path.{_≡_, refl}
-use Rattle.table.specs.declared.place.Place.{Place}
-use Rattle.table.specs.declared.place.Place.the-variants.{At, Nowhere}
-use Rattle.table.specs.declared.check.Tested.{Tested}
-use Rattle.table.specs.declared.check.Tested.the-variants.{Passed, Refused}
-use Rattle.table.specs.Tests.{entries, wrongEntry, repeatedEntry, refusedAt, sized, tableTests}
-use Rattle.table.specs.Laws.{Good, PassedIsGood}
-use Rattle.table.proofs.Choice.{pick-cases}
+use mathlib.Core.Bool.{not}
+use mathlib.Core.List.{_∷_}
+use Rattle.basics.specs.Refusals.{test, at0}
+use Rattle.basics.proofs.Asked.{not-other, at0-nowhere}
+use Rattle.basics.proofs.Refusals.{passed-by-all}
+use Rattle.table.specs.Tests.{entries, sized, entryTests, tableTests}
+use Rattle.table.specs.Laws.{PassedIsGood}
 use Rattle.table.proofs.Answers.{sizes}
 use Rattle.table.proofs.Ordered.{no-fault-ordered}
 use Rattle.table.proofs.Distinct.{no-fault-distinct}
 
-refused-not-passed : {number place : ℕ} → Refused number place ≡ Passed → ⊥
-refused-not-passed e = let z : _≡_ {A = ℕ} 0 1 = cc in omega arith
-
--- A test that is passed found no place, and the next is passed.
-next-passed : (number : ℕ) (found : Place) (next : Tested) → refusedAt number found next ≡ Passed → (found ≡ Nowhere) × (next ≡ Passed)
-next-passed number (At i) next e = absurd (refused-not-passed e)
-next-passed number Nowhere next e = (refl, e)
-
 pub passed-is-good : PassedIsGood
 unfolding tableTests
-passed-is-good heads seconds =
-    pick-cases (λ v. v ≡ Passed → Good heads seconds) (sized heads seconds)
-    (λ t e.
-    let (alike, few) = sizes heads seconds t in
-    let (four, then) = next-passed 4 (wrongEntry (entries heads seconds)) (refusedAt 5 (repeatedEntry heads seconds) Passed) e in
-    let (five, done) = next-passed 5 (repeatedEntry heads seconds) Passed then in
+passed-is-good heads seconds e =
+    let (two, (four, (five, _))) = passed-by-all (test 2 (at0 (not (sized heads seconds))) ∷ entryTests heads seconds) .0 e in
+    let (alike, few) = sizes heads seconds (at0-nowhere _ (not-other (sized heads seconds) (λ z. z, λ z. z)) .0 two) in
     let ordered = no-fault-ordered (entries heads seconds) .0 four in
-    record {
-      same-length = alike;
-      few = few;
-      ordered = ordered;
-      distinct = no-fault-distinct heads seconds alike ordered five;
-    })
-    (λ t e. absurd (refused-not-passed e))
+    record { same-length = alike; few = few; ordered = ordered; distinct = no-fault-distinct heads seconds alike ordered five }

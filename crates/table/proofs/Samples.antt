@@ -1,7 +1,8 @@
 -- The samples hold, by computation. Assumes nothing.
 use mathlib.Core.Path.{refl}
 use native.Mathlib.Decide.{ℕ-discrete}
-use Rattle.table.specs.First.{first}
+use Rattle.basics.specs.First.{first}
+use Rattle.basics.specs.Refusals.{firstRefusal}
 use Rattle.table.specs.Entry.{entry}
 use Rattle.table.specs.Tests.{entries, wrongEntry, repeatedEntry, tableTests}
 use Rattle.table.specs.Spelled.{spelledAfter, spelled}
@@ -9,7 +10,7 @@ use Rattle.table.specs.Number.{position, number}
 use Rattle.table.specs.Samples.{Samples, Sizes, SpelledOut, Numbers}
 
 pub samples : Samples
-unfolding tableTests wrongEntry repeatedEntry first entries entry
+unfolding tableTests firstRefusal wrongEntry repeatedEntry first entries entry
 samples = refl
 
 pub sizes : Sizes

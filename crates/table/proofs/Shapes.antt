@@ -5,9 +5,9 @@ use native.Mathlib.Omega.{arith}
 use mathlib.Core.Path.{_≡_, refl, sym, ap, subst, _∙_}
 use mathlib.Core.List.{List, List·Memᴰ·not-nil}
 use lib.ListN.{length, List·getD-eq-default}
+use Rattle.basics.specs.Membership.{_∈_}
+use Rattle.basics.proofs.Membership.{first, second}
 use Rattle.logic.specs.Proposition.{Proposition, atom, false, _implies_, _and_, _or_, _says_}
-use Rattle.logic.specs.Hypotheses.{_∈_}
-use Rattle.logic.proofs.Hypotheses.{first, second}
 use Rattle.table.specs.declared.entry.Formula.{Formula}
 use Rattle.table.specs.declared.entry.Entry.{Entry}
 use Rattle.table.specs.declared.entry.Entry.the-variants.{Atom, False, Implies, And, Or, Says, IllFormed}

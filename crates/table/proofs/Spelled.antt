@@ -6,9 +6,9 @@ use mathlib.Core.Path.{_≡_, refl, sym, ap, ap₂, _∙_}
 use mathlib.Core.List.{List, [], _∷_, _++_, append-assoc, append-nil}
 use lib.ListN.{length, take, drop, List·getD-append, List·getD-eq-default}
 use lib.Seq.{length-take-le, append-snoc, split-at, getD-at}
+use Rattle.basics.specs.Membership.{_∈_}
+use Rattle.basics.proofs.Membership.{first, second}
 use Rattle.logic.specs.Proposition.{Proposition, false, _implies_, _and_, _or_, _says_}
-use Rattle.logic.specs.Hypotheses.{_∈_}
-use Rattle.logic.proofs.Hypotheses.{first, second}
 use Rattle.table.specs.declared.entry.Formula.{Formula}
 use Rattle.table.specs.declared.entry.Entry.{Entry}
 use Rattle.table.specs.declared.entry.Entry.the-variants.{Atom, False, Implies, And, Or, Says, IllFormed}

@@ -4,16 +4,17 @@
 --
 -- "A head is kind × 4,096 + first operand. Kinds: 0 atom (first = atom number, second 0); 1 false (both 0); 2 implies, 3 and, 4 or (two
 -- formula numbers); 5 says (first = principal number, second = formula number)." (01)
-use Prim.Native.Nat.{ℕ, _/_, _%_}
+use Prim.Native.Nat.{ℕ}
 use mathlib.Core.List.{List, [], _∷_}
 use lib.ListN.{getD}
 use lib.Dec.{eqb}
+use Rattle.basics.specs.Choice.{pick, both}
+use Rattle.basics.specs.Word.{upper, lower}
 use Rattle.table.specs.declared.entry.Atom as A
 use Rattle.table.specs.declared.entry.Principal.{Principal}
 use Rattle.table.specs.declared.entry.Formula.{Formula}
 use Rattle.table.specs.declared.entry.Entry.{Entry}
 use Rattle.table.specs.declared.entry.Entry.the-variants.{Atom, False, Implies, And, Or, Says, IllFormed}
-use Rattle.table.specs.Choice.{pick, both}
 
 -- the formula, the principal, the atom of a number
 abbrev pub formula : ℕ → Formula
@@ -38,4 +39,4 @@ kinds one two =
 
 -- a kind of 6 or more is ill-formed, and so is a wrong operand that shows without the entry's number
 unfoldable pub entry : ℕ → ℕ → Entry
-entry head second = getD (kinds (head % 4096) second) (head / 4096) IllFormed
+entry head second = getD (kinds (lower head) second) (upper head) IllFormed

@@ -5,21 +5,21 @@ use mathlib.Core.Bool.{true}
 use mathlib.Core.Path.{_≡_}
 use mathlib.Core.Logic.{_↔_}
 use mathlib.Core.List.{List, [], _∷_}
-use lib.ListN.{length}
-use Rattle.logic.specs.Hypotheses.{_∈_}
+use lib.ListN.{length, getD}
+use Rattle.basics.specs.Membership.{_∈_}
+use Rattle.basics.specs.declared.place.Place.the-variants.{Nowhere}
+use Rattle.basics.specs.declared.tested.Tested.the-variants.{Passed}
+use Rattle.basics.specs.Limits.{mostFormulas}
 use Rattle.table.specs.declared.entry.Formula.{Formula}
 use Rattle.table.specs.declared.entry.Entry.{Entry}
 use Rattle.table.specs.declared.entry.Entry.the-variants.{Atom, False, Implies, And, Or, Says, IllFormed}
-use Rattle.table.specs.declared.place.Place.the-variants.{Nowhere}
-use Rattle.table.specs.declared.check.Tested.the-variants.{Passed}
-use Rattle.table.specs.Limits.{mostFormulas}
-use Rattle.table.specs.Tests.{entries, entryAt, right, wrongEntry, repeatedEntry, tableTests}
+use Rattle.table.specs.Tests.{entries, entryAt, wellFormedAt, wrongEntry, repeatedEntry, tableTests}
 use Rattle.table.specs.Spelled.{proposition, spelled, spell}
 use Rattle.table.specs.Number.{number}
 
--- 4 finds no fault exactly when each entry is right at its number.
+-- 4 finds no fault exactly when each entry is well-formed at its number.
 abbrev pub Ordered : List Entry → Type 0
-Ordered es = (i : ℕ) → i < length es → right i (entryAt es i) ≡ true
+Ordered es = (i : ℕ) → i < length es → wellFormedAt i (entryAt es i) ≡ true
 
 abbrev pub NoFaultOrdered : Type 0
 NoFaultOrdered = (es : List Entry) → wrongEntry es ≡ Nowhere ↔ Ordered es
@@ -49,6 +49,16 @@ abbrev pub NoFaultDistinct : Type 0
 NoFaultDistinct =
     (heads seconds : List ℕ) → length heads ≡ length seconds
     → Ordered (entries heads seconds) → repeatedEntry heads seconds ≡ Nowhere → Distinct (entries heads seconds)
+
+-- no two entries have the same head and second
+abbrev pub NoneRepeated : List ℕ → List ℕ → Type 0
+NoneRepeated heads seconds =
+    (i j : ℕ) → i < j → j < length heads
+    → getD heads i 0 ≡ getD heads j 0 → getD seconds i 0 ≡ getD seconds j 0 → ⊥
+
+-- 5 applies nowhere exactly when there are no two.
+abbrev pub NotRepeated : Type 0
+NotRepeated = (heads seconds : List ℕ) → repeatedEntry heads seconds ≡ Nowhere ↔ NoneRepeated heads seconds
 
 -- What a table has that passes 2, 4 and 5.
 pub record Good (heads seconds : List ℕ) : Type 0 where

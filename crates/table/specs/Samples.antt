@@ -5,10 +5,10 @@ use mathlib.Core.Bool.{true, false}
 use mathlib.Core.Path.{_≡_}
 use mathlib.Core.List.{List, [], _∷_, map}
 use lib.ListN.{replicate}
+use Rattle.basics.specs.declared.tested.Tested.{Tested}
+use Rattle.basics.specs.declared.tested.Tested.the-variants.{Passed, Refused}
 use Rattle.logic.specs.Proposition as P
 use Rattle.logic.specs.Proposition.{_implies_, _says_}
-use Rattle.table.specs.declared.check.Tested.{Tested}
-use Rattle.table.specs.declared.check.Tested.the-variants.{Passed, Refused}
 use Rattle.table.specs.Tests.{entries, sized, tableTests}
 use Rattle.table.specs.Spelled.{spelled}
 use Rattle.table.specs.Number.{number}

@@ -1,19 +1,19 @@
 -- Tests 2, 4 and 5 of 01 for a table that is lent as two parallel arrays, heads and seconds. Assumes nothing.
 use Prim.Native.Nat.{ℕ}
 use mathlib.Core.Bool.{Bool, true, false, not}
+use mathlib.Core.Path.{_≡_}
 use mathlib.Core.List.{List, [], _∷_}
 use lib.ListN.{length, getD}
 use lib.Dec.{eqb, ltb, leb}
+use Rattle.basics.specs.declared.place.Place.{Place}
+use Rattle.basics.specs.declared.tested.Tested.{Tested}
+use Rattle.basics.specs.Limits.{mostFormulas}
+use Rattle.basics.specs.Choice.{both}
+use Rattle.basics.specs.First.{first, found}
+use Rattle.basics.specs.Refusals.{Test, test, at0, firstRefusal}
 use Rattle.table.specs.declared.entry.Formula.{Formula}
 use Rattle.table.specs.declared.entry.Entry.{Entry}
 use Rattle.table.specs.declared.entry.Entry.the-variants.{Atom, False, Implies, And, Or, Says, IllFormed}
-use Rattle.table.specs.declared.place.Place.{Place}
-use Rattle.table.specs.declared.place.Place.the-variants.{At, Nowhere}
-use Rattle.table.specs.declared.check.Tested.{Tested}
-use Rattle.table.specs.declared.check.Tested.the-variants.{Passed, Refused}
-use Rattle.table.specs.Limits.{mostFormulas}
-use Rattle.table.specs.Choice.{pick, both}
-use Rattle.table.specs.First.{first, found}
 use Rattle.table.specs.Entry.{entry}
 
 -- "Then two parallel arrays of F words each, heads and seconds." Of arrays of unlike length, as far as both go.
@@ -27,21 +27,21 @@ abbrev pub entryAt : List Entry → ℕ → Entry
 entryAt es n = getD es n IllFormed
 
 -- "An operand that is a formula has a lower number than the entry that uses it."
-abbrev pub lower : ℕ → Formula → Bool
-lower i f = ltb (f .0) i
+abbrev pub below : ℕ → Formula → Bool
+below i f = ltb (f .0) i
 
-abbrev pub right : ℕ → Entry → Bool
-right i (Atom a) = true
-right i False = true
-right i (Implies f g) = both (lower i f) (lower i g)
-right i (And f g) = both (lower i f) (lower i g)
-right i (Or f g) = both (lower i f) (lower i g)
-right i (Says k f) = lower i f
-right i IllFormed = false
+abbrev pub wellFormedAt : ℕ → Entry → Bool
+wellFormedAt i (Atom a) = true
+wellFormedAt i False = true
+wellFormedAt i (Implies f g) = both (below i f) (below i g)
+wellFormedAt i (And f g) = both (below i f) (below i g)
+wellFormedAt i (Or f g) = both (below i f) (below i g)
+wellFormedAt i (Says k f) = below i f
+wellFormedAt i IllFormed = false
 
 -- "4. An entry has kind 6 or more or a wrong operand (place: the first such entry)."
 unfoldable pub wrongEntry : List Entry → Place
-wrongEntry es = first (λ i. not (right i (entryAt es i))) (length es)
+wrongEntry es = first (λ i. not (wellFormedAt i (entryAt es i))) (length es)
 
 -- whether positions i and j have the same head and the same second
 abbrev pub same : List ℕ → List ℕ → ℕ → ℕ → Bool
@@ -51,18 +51,18 @@ same heads seconds i j = both (eqb (getD heads i 0) (getD heads j 0)) (eqb (getD
 unfoldable pub repeatedEntry : List ℕ → List ℕ → Place
 repeatedEntry heads seconds = first (λ i. found (first (same heads seconds i) i)) (length heads)
 
--- the refusal at a place that was found, else what follows
-abbrev pub refusedAt : ℕ → Place → Tested → Tested
-refusedAt number (At i) next = Refused number i
-refusedAt number Nowhere next = next
-
 -- "A table lent as two arrays of unlike length meets 2." F is 1 to 4,096.
 abbrev pub sized : List ℕ → List ℕ → Bool
 sized heads seconds = both (eqb (length heads) (length seconds)) (both (leb 1 (length heads)) (leb (length heads) mostFormulas))
 
--- 2, 4 and 5, in this order. "5 .. tested after 4 has passed the whole table"
+-- two arrays of this size: what private functions of the checks ask of their callers
+abbrev pub SizedTable : List ℕ → List ℕ → Type 0
+SizedTable heads seconds = sized heads seconds ≡ true
+
+-- 4 and 5, in this order. "5 .. tested after 4 has passed the whole table"
+abbrev pub entryTests : List ℕ → List ℕ → List Test
+entryTests heads seconds = test 4 (wrongEntry (entries heads seconds)) ∷ test 5 (repeatedEntry heads seconds) ∷ []
+
+-- 2, 4 and 5
 unfoldable pub tableTests : List ℕ → List ℕ → Tested
-tableTests heads seconds =
-    pick (sized heads seconds)
-    (refusedAt 4 (wrongEntry (entries heads seconds)) (refusedAt 5 (repeatedEntry heads seconds) Passed))
-    (Refused 2 0)
+tableTests heads seconds = firstRefusal (test 2 (at0 (not (sized heads seconds))) ∷ entryTests heads seconds)

@@ -1,15 +1,10 @@
-// What the tests of a table answer, and test 2, a table's size.
+// Test 2: a table's size.
 ghost use mathlib.Core.Path.{_≡_};
 ghost use lib.Dec.{leb};
-ghost use Rattle.table.specs.Choice.{both};
-ghost use Rattle.table.specs.Limits.{mostFormulas};
+ghost use Rattle.basics.specs.Choice.{both};
+ghost use Rattle.basics.specs.Limits.{mostFormulas};
 ghost use Rattle.table.specs.Tests.{sized};
-use crate::limits::MOST_FORMULAS;
-
-pub enum Tested {
-    Passed,
-    Refused { number: u8, place: usize },
-}
+use basics::limits::MOST_FORMULAS;
 
 // "F formulas (1 to 4,096)"
 fn in_range(formulas: usize) -> bool

@@ -1,17 +1,19 @@
--- An entry is right at a number exactly when its operands are below their kind's bounds. Assumes nothing.
-use Prim.Native.Nat.{ℕ, zero, suc, _/_, _%_, _<_, _≤_}
+-- An entry is well-formed at a number exactly when its operands are below their kind's bounds. Assumes nothing.
+use Prim.Native.Nat.{ℕ, zero, suc, _<_, _≤_}
 use native.Mathlib.Omega.{arith}
 use mathlib.Core.Bool.{Bool, true, false}
-use mathlib.Core.Path.{_≡_, refl}
+use mathlib.Core.Path.{_≡_, refl, ap, subst, _∙_}
 use lib.ListN.{getD}
 use lib.Dec.{eqb, ltb}
 use borrow.Author.Tests.{eqb-true, eqb-false, lt-ltb, le-ltb}
+use Rattle.basics.specs.Choice.{both}
+use Rattle.basics.specs.Word.{upper, lower}
+use Rattle.basics.specs.Limits.{mostAtoms, mostPrincipals}
+use Rattle.basics.proofs.Choice.{pick-cases}
 use Rattle.table.specs.declared.entry.Entry.{Entry}
 use Rattle.table.specs.declared.entry.Entry.the-variants.{IllFormed}
-use Rattle.table.specs.Choice.{pick, both}
 use Rattle.table.specs.Entry.{kinds, entry}
-use Rattle.table.specs.Tests.{right}
-use Rattle.table.proofs.Choice.{pick-cases}
+use Rattle.table.specs.Tests.{wellFormedAt}
 use Rattle.table_check.specs.Bounds.{firstBound, secondBound}
 
 some : (n : ℕ) → (n ≡ 0 → ⊥) → 1 ≤ n
@@ -29,19 +31,19 @@ both-none false = refl
 
 -- kind by kind, in the order of `kinds`
 by-kind :
-    (kind one two i : ℕ) → one < 4096
-    → both (ltb one (firstBound kind i)) (ltb two (secondBound kind i)) ≡ right i (getD (kinds one two) kind IllFormed)
+    (kind one two i : ℕ) → one < mostAtoms
+    → both (ltb one (firstBound kind i)) (ltb two (secondBound kind i)) ≡ wellFormedAt i (getD (kinds one two) kind IllFormed)
 by-kind zero one two i small =
-    pick-cases (λ (e : Entry). both (ltb one 4096) (ltb two 1) ≡ right i e) (eqb two 0)
-    (λ t. rw (lt-ltb one 4096 small, below-one two true t))
-    (λ t. rw (lt-ltb one 4096 small, below-one two false t))
+    pick-cases (λ (e : Entry). both (ltb one mostAtoms) (ltb two 1) ≡ wellFormedAt i e) (eqb two 0)
+    (λ t. rw (lt-ltb one mostAtoms small, below-one two true t))
+    (λ t. rw (lt-ltb one mostAtoms small, below-one two false t))
 by-kind (suc zero) one two i small =
     rw (below-one one (eqb one 0) refl, below-one two (eqb two 0) refl)
-    (pick-cases (λ (e : Entry). both (eqb one 0) (eqb two 0) ≡ right i e) (both (eqb one 0) (eqb two 0)) (λ t. t) (λ t. t))
+    (pick-cases (λ (e : Entry). both (eqb one 0) (eqb two 0) ≡ wellFormedAt i e) (both (eqb one 0) (eqb two 0)) (λ t. t) (λ t. t))
 by-kind (suc (suc zero)) one two i small = refl
 by-kind (suc (suc (suc zero))) one two i small = refl
 by-kind (suc (suc (suc (suc zero)))) one two i small = refl
-by-kind (suc (suc (suc (suc (suc zero))))) one two i small = rw (lt-ltb one 4096 small)
+by-kind (suc (suc (suc (suc (suc zero))))) one two i small = rw (lt-ltb one mostPrincipals small)
 by-kind (suc (suc (suc (suc (suc (suc kind)))))) one two i small =
     rw (le-ltb (suc (suc (suc (suc (suc (suc kind)))))) 2 (omega arith), le-ltb (suc (suc (suc (suc (suc (suc kind)))))) 6 (omega arith), le-ltb two 0 (omega arith))
     (both-none (ltb one (firstBound (suc (suc (suc (suc (suc (suc kind)))))) i)))
@@ -49,17 +51,25 @@ by-kind (suc (suc (suc (suc (suc (suc kind)))))) one two i small =
 -- So the test of the operands is test 4 of the entry.
 bounded :
     (i head second : ℕ)
-    → both (ltb (head % 4096) (firstBound (head / 4096) i)) (ltb second (secondBound (head / 4096) i)) ≡ right i (entry head second)
+    → both (ltb (lower head) (firstBound (upper head) i)) (ltb second (secondBound (upper head) i)) ≡ wellFormedAt i (entry head second)
 unfolding entry
-bounded i head second = by-kind (head / 4096) (head % 4096) second i (omega arith)
+bounded i head second = by-kind (upper head) (lower head) second i (omega arith)
 
--- As the code asks it: with the first operand below its bound f, the second against its bound s ..
-pub asked-both :
-    (i head second f s : ℕ) → f ≡ firstBound (head / 4096) i → head % 4096 < f → s ≡ secondBound (head / 4096) i
-    → ltb second s ≡ right i (entry head second)
-asked-both i head second f s its below other =
-    rw (other, ← bounded i head second, ← its, lt-ltb (head % 4096) f below)
+-- As the code asks it, of the kind and the first operand that it has of the head:
+module _ (i head second : ℕ) {kind one f : ℕ} (k : kind ≡ upper head) (o : one ≡ lower head) (its : f ≡ firstBound kind i) where
+  -- the first operand's bound
+  first-bound : f ≡ firstBound (upper head) i
+  first-bound = its ∙ ap (λ (z : ℕ). firstBound z i) k
 
--- .. and else the first alone.
-pub asked-first : (i head second f : ℕ) → f ≡ firstBound (head / 4096) i → f ≤ head % 4096 → ltb (head % 4096) f ≡ right i (entry head second)
-asked-first i head second f its past = rw (← bounded i head second, ← its, le-ltb (head % 4096) f past)
+  -- with the first operand below its bound f, the second against its bound s ..
+  pub asked-both : {s : ℕ} → one < f → s ≡ secondBound kind i → ltb second s ≡ wellFormedAt i (entry head second)
+  asked-both {s} below other =
+      let less : lower head < f = subst (λ (z : ℕ). z < f) o below in
+      let bound : s ≡ secondBound (upper head) i = other ∙ ap (λ (z : ℕ). secondBound z i) k in
+      rw (bound, ← bounded i head second, ← first-bound, lt-ltb (lower head) f less)
+
+  -- .. and else the first alone.
+  pub asked-first : f ≤ one → ltb one f ≡ wellFormedAt i (entry head second)
+  asked-first past =
+      let more : f ≤ lower head = subst (λ (z : ℕ). f ≤ z) o past in
+      rw (o, ← bounded i head second, ← first-bound, le-ltb (lower head) f more)

@@ -5,11 +5,11 @@ use mathlib.Core.Bool.{Bool, true, false, not}
 use mathlib.Core.List.{List}
 use mathlib.Core.Path.{_≡_, sym, ap, _∙_}
 use lib.ListN.{length, getD}
-use Rattle.table.specs.declared.place.Place.the-variants.{At, Nowhere}
-use Rattle.table.specs.First.{first, found}
+use Rattle.basics.specs.declared.place.Place.the-variants.{At, Nowhere}
+use Rattle.basics.specs.First.{first, found}
+use Rattle.basics.proofs.First.{first-none-more, first-at}
 use Rattle.table.specs.Entry.{entry}
-use Rattle.table.specs.Tests.{entries, entryAt, right, wrongEntry, same, repeatedEntry}
-use Rattle.table.proofs.First.{first-none-more, first-at}
+use Rattle.table.specs.Tests.{entries, entryAt, wellFormedAt, wrongEntry, same, repeatedEntry}
 use Rattle.table.proofs.Entries.{length-entries, entry-at}
 
 -- Of two opposite answers, each is the opposite of the other.
@@ -20,11 +20,11 @@ opposite false b e = sym (ap not e)
 module _ (hs ss : List ℕ) where
   -- The entry of number i is wrong.
   abbrev pub wrong : ℕ → Bool
-  wrong i = not (right i (entryAt (entries hs ss) i))
+  wrong i = not (wellFormedAt i (entryAt (entries hs ss) i))
 
   -- Whether it is, as the loop asks.
   pub judged :
-      (i : ℕ) (b : Bool) → i < length hs → i < length ss → b ≡ right i (entry (getD hs i 0) (getD ss i 0)) → wrong i ≡ not b
+      (i : ℕ) (b : Bool) → i < length hs → i < length ss → b ≡ wellFormedAt i (entry (getD hs i 0) (getD ss i 0)) → wrong i ≡ not b
   judged i b in-heads in-seconds asked = cc (entry-at hs ss i in-heads in-seconds)
 
   -- Entry i is wrong and none before it is: 4 answers i.

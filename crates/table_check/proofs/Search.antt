@@ -9,12 +9,12 @@ use lib.Dec.{eqb}
 use lib.ListN.{length, getD, set}
 use lib.Seq.{getD-set-same}
 use borrow.Author.Tests.{eqb-true}
-use Rattle.table.specs.declared.place.Place.{Place}
-use Rattle.table.specs.declared.place.Place.the-variants.{At, Nowhere}
-use Rattle.table.specs.First.{first, found}
+use Rattle.basics.specs.declared.place.Place.{Place}
+use Rattle.basics.specs.declared.place.Place.the-variants.{At, Nowhere}
+use Rattle.basics.specs.First.{first, found}
+use Rattle.basics.proofs.Choice.{both-true}
+use Rattle.basics.proofs.First.{no-place}
 use Rattle.table.specs.Tests.{same}
-use Rattle.table.proofs.Choice.{both-true}
-use Rattle.table.proofs.First.{no-place}
 use Rattle.table_check.specs.Index.{root, key, onward, Meets, here, further, Found, Indexed}
 use Rattle.table_check.proofs.Trees.{kept, indexed-more}
 

@@ -3,9 +3,9 @@ ghost use mathlib.Core.Path.{_≡_};
 ghost use Rattle.table.specs.Tests.{tableTests};
 use crate::order::wrong_entry;
 use crate::repeat::repeated_entry;
-use table::check::Tested;
+use basics::place::Place;
+use basics::tested::Tested;
 use table::check::is_sized;
-use table::place::Place;
 
 // 2, 4 and 5. "5 .. tested after 4 has passed the whole table"
 pub fn check_table(heads: &[u16], seconds: &[u16]) -> Tested

@@ -1,22 +1,26 @@
-// Test 4: each entry is right at its number.
+// Test 4: each entry is well-formed at its number.
 ghost use mathlib.Core.Path.{_≡_};
 ghost use Rattle.table.specs.Entry.{entry};
-ghost use Rattle.table.specs.Tests.{entries, right, wrongEntry};
+ghost use Rattle.table.specs.Tests.{entries, wellFormedAt, wrongEntry};
 ghost use Rattle.table_check.specs.Bounds.{firstBound, secondBound};
-use table::place::Place;
+use basics::limits::MOST_ATOMS;
+use basics::limits::MOST_PRINCIPALS;
+use basics::place::Place;
+use basics::word::lower;
+use basics::word::upper;
 
-// What the first operand of a kind is below, in an entry that is right at number i.
+// What the first operand of a kind is below, in an entry that is well-formed at number i.
 fn first_bound(kind: u16, i: usize) -> usize
     ensures { λ r. ⌜ r ≡ firstBound kind i ⌝ }
 {
     if kind == 0 {
-        4096
+        MOST_ATOMS
     } else if kind == 1 {
         1
     } else if kind < 5 {
         i
     } else {
-        4096
+        MOST_PRINCIPALS
     }
 }
 
@@ -33,13 +37,13 @@ fn second_bound(kind: u16, i: usize) -> usize
     }
 }
 
-// Whether the entry of a head and second is right at number i. It is asked of the numbers, without a jump to the kind's own code, which a
+// Whether the entry of a head and second is well-formed at number i. It is asked of the numbers, without a jump to the kind's own code, which a
 // processor can't foresee in a table of mixed kinds; no formula, principal or atom is made of them.
-fn is_right(i: usize, head: u16, second: u16) -> bool
-    ensures { λ r. ⌜ r ≡ right i (entry head second) ⌝ }
+fn is_well_formed(i: usize, head: u16, second: u16) -> bool
+    ensures { λ r. ⌜ r ≡ wellFormedAt i (entry head second) ⌝ }
 {
-    let kind = head / 4096;
-    let first = head % 4096;
+    let kind = upper(head);
+    let first = lower(head);
     (first as usize) < first_bound(kind, i) && (second as usize) < second_bound(kind, i)
 }
 
@@ -49,7 +53,7 @@ pub fn wrong_entry(heads: &[u16], seconds: &[u16]) -> Place
 {
     let mut i = 0;
     while i < heads.len() && i < seconds.len() {
-        if !is_right(i, heads[i], seconds[i]) {
+        if !is_well_formed(i, heads[i], seconds[i]) {
             return Place::At(i);
         }
         i += 1;

@@ -5,12 +5,12 @@ ghost use Prim.Native.Nat.{_+_, _<_, _≤_};
 ghost use mathlib.Core.Bool.{not, true};
 ghost use mathlib.Core.Path.{_≡_};
 ghost use lib.ListN.{length};
-ghost use Rattle.table.specs.First.{first, found};
-ghost use Rattle.table.specs.Limits.{mostFormulas};
+ghost use Rattle.basics.specs.First.{first, found};
+ghost use Rattle.basics.specs.Limits.{mostFormulas};
 ghost use Rattle.table.specs.Tests.{same, repeatedEntry};
 ghost use Rattle.table_check.specs.Index.{root, key, Within, Indexed};
-use table::limits::MOST_FORMULAS;
-use table::place::Place;
+use basics::limits::MOST_FORMULAS;
+use basics::place::Place;
 
 // A table of few entries has a small index, since clearing a large one would take longer than the search.
 const FEW: usize = 64;

@@ -7,8 +7,8 @@ use mathlib.Core.Logic.{_⊎_, ⊎-elim}
 use mathlib.Core.List.{List, [], _∷_, _++_}
 use lib.ListN.{length, take, drop, getD, set, length-append, length-set, take-append-drop}
 use lib.Seq.{take-all, take-suc, length-take-le}
-use Rattle.lent.specs.Written.{writtenAt}
-use Rattle.lent.proofs.Written.{written-joined, written-at-length, written-at-none, written-at-more, written-at-full, written-at-past}
+use Rattle.basics.specs.Written.{writtenAt}
+use Rattle.basics.proofs.Written.{written-joined, written-at-length, written-at-none, written-at-more, written-at-full, written-at-past}
 use Rattle.text.specs.Fill.{placeAfter, FillFits, FillPast, FillJoined, PlacesJoined}
 use Rattle.text.proofs.Split.{split}
 

@@ -1,6 +1,6 @@
 -- The samples hold, by computation. Assumes nothing.
 use mathlib.Core.Path.{refl}
-use Rattle.lent.specs.Written.{written}
+use Rattle.basics.specs.Written.{written}
 use Rattle.text.specs.Ascii.{ascii}
 use Rattle.text.specs.Decimal.{digits, decimal}
 use Rattle.text.specs.Samples.{Granted, Decimals, Filled, Places}

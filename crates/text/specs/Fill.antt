@@ -4,7 +4,7 @@ use Prim.Native.Nat.{ℕ, _+_, _-_, _≤_, min}
 use mathlib.Core.Path.{_≡_}
 use mathlib.Core.List.{List, _++_}
 use lib.ListN.{length}
-use Rattle.lent.specs.Written.{writtenAt}
+use Rattle.basics.specs.Written.{writtenAt}
 
 -- The place after the last byte written: p and as many as there are new ones, or as there is room for. Past the end there is no room.
 abbrev pub placeAfter : List ℕ → ℕ → List ℕ → ℕ

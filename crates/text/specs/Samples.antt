@@ -2,7 +2,7 @@
 -- Assumes nothing.
 use mathlib.Core.Path.{_≡_}
 use mathlib.Core.List.{[], _∷_, map}
-use Rattle.lent.specs.Written.{writtenAt}
+use Rattle.basics.specs.Written.{writtenAt}
 use Rattle.text.specs.Ascii.{ascii}
 use Rattle.text.specs.Fill.{placeAfter}
 use Rattle.text.specs.Decimal.{decimal}

@@ -2,7 +2,7 @@
 ghost use Prim.Native.Nat.{_+_, _≤_, _<_};
 ghost use mathlib.Core.Path.{_≡_};
 ghost use lib.ListN.{length, drop};
-ghost use Rattle.lent.specs.Written.{writtenAt};
+ghost use Rattle.basics.specs.Written.{writtenAt};
 ghost use Rattle.text.specs.Decimal.{decimal};
 ghost use Rattle.text.specs.Fill.{placeAfter};
 use crate::fill::fill;

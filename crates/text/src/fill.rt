@@ -1,6 +1,6 @@
 // Bytes written into lent bytes, from a place on.
 ghost use mathlib.Core.Path.{_≡_};
-ghost use Rattle.lent.specs.Written.{writtenAt};
+ghost use Rattle.basics.specs.Written.{writtenAt};
 ghost use Rattle.text.specs.Fill.{placeAfter};
 
 // Writes `bytes` from the place `at` on, as far as there is room, and gives the place after the last byte written.

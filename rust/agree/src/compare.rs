@@ -14,7 +14,8 @@ pub enum Answer {
         number: u8,
         place: usize,
     },
-    /// The proved checker broke a promise about the lent list, which is a disagreement with any checker.
+    /// The proved checker broke a promise about the lent list, which is a disagreement with any
+    /// checker.
     Broken(String),
 }
 
@@ -32,37 +33,42 @@ pub fn proved(file: &[u8], kind: Kind, room: usize) -> Answer {
 /// The answer of the second checker.
 pub fn second(file: &[u8], kind: Kind, room: usize) -> Answer {
     match kind {
-        Kind::Record => match second_checker::check_record(file, room) {
+        Kind::Record => match second::check_record(file, room) {
             Ok(signers) => Answer::Granted(signers),
             Err(refusal) => Answer::Refused { number: refusal.number, place: refusal.place },
         },
-        Kind::Exchange => match second_checker::check_exchange(file) {
+        Kind::Exchange => match second::check_exchange(file) {
             Ok(()) => Answer::Equal,
             Err(refusal) => Answer::Refused { number: refusal.number, place: refusal.place },
         },
     }
 }
 
-/// "each once, in any order. They go into a lent list of 16-bit words, from its start; the words after them don't change"; "A refusal ..
-/// changes nothing that is lent". The list is full of words beforehand, principals among them.
+/// "each once, in any order. They go into a lent list of 16-bit words, from its start; the words
+/// after them don't change"; "A refusal .. changes nothing that is lent". The list is full of words
+/// beforehand, principals among them.
 fn proved_record(file: &[u8], room: usize) -> Answer {
-    let before: Vec<u16> = (0..room).map(|i| (i as u16).wrapping_mul(if file.len() % 4 < 2 { 1 } else { 0x9e37 })).collect();
+    let factor = if file.len() % 4 < 2 { 1 } else { 0x9e37 };
+    let before: Vec<u16> = (0..room).map(|i| (i as u16).wrapping_mul(factor)).collect();
     let mut lent = before.clone();
     match wethrynda::check_record(file, &mut lent) {
-        Verdict::Granted(count) if count > room => Answer::Broken(format!("granted {count} in a list of {room}")),
+        Verdict::Granted(count) if count > room => {
+            Answer::Broken(format!("granted {count} in a list of {room}"))
+        }
         Verdict::Granted(count) => {
             let signers: BTreeSet<u16> = lent[..count].iter().copied().collect();
             if signers.len() != count {
                 Answer::Broken(format!("granted {count}, a signer twice: {:?}", &lent[..count]))
             } else if lent[count..] != before[count..] {
-                Answer::Broken(format!("granted {count}, and words after the signers changed: {lent:?}"))
+                let after = "and words after the signers changed";
+                Answer::Broken(format!("granted {count}, {after}: {lent:?}"))
             } else {
                 Answer::Granted(signers)
             }
         }
-        Verdict::Refused { number, place } if lent != before => {
-            Answer::Broken(format!("refused {number} place {place}, and the list changed: {lent:?}"))
-        }
+        Verdict::Refused { number, place } if lent != before => Answer::Broken(format!(
+            "refused {number} place {place}, and the list changed: {lent:?}"
+        )),
         Verdict::Refused { number, place } => Answer::Refused { number, place },
     }
 }
@@ -84,10 +90,11 @@ pub struct Disagreement {
 
 impl std::fmt::Display for Disagreement {
     fn fmt(&self, f: &mut std::fmt::Formatter<'_>) -> std::fmt::Result {
-        writeln!(f, "the checkers disagree, as {:?}, {} words lent, family {}", self.kind, self.given.room, self.given.family)?;
-        writeln!(f, "  proved: {:?}\n  second: {:?}", self.proved, self.second)?;
-        let hex: String = self.given.file.iter().map(|byte| format!("{byte:02x}")).collect();
-        write!(f, "  file, {} bytes: {hex}", self.given.file.len())
+        let Disagreement { given: Given { family, file, room, .. }, kind, proved, second } = self;
+        writeln!(f, "the checkers disagree, as {kind:?}, {room} words lent, family {family}")?;
+        writeln!(f, "  proved: {proved:?}\n  second: {second:?}")?;
+        let hex: String = file.iter().map(|byte| format!("{byte:02x}")).collect();
+        write!(f, "  file, {} bytes: {hex}", file.len())
     }
 }
 
@@ -95,7 +102,8 @@ impl std::fmt::Display for Disagreement {
 pub fn compared(given: &Given) -> Result<Vec<(Kind, Answer)>, Box<Disagreement>> {
     kinds(given)
         .map(|kind| {
-            let (proved, second) = (proved(&given.file, kind, given.room), second(&given.file, kind, given.room));
+            let proved = proved(&given.file, kind, given.room);
+            let second = second(&given.file, kind, given.room);
             if proved == second {
                 Ok((kind, proved))
             } else {

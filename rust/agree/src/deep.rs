@@ -1,13 +1,15 @@
 //! Proofs as deep as is allowed, one less and one more: "Depth 512 passes and 513 is refused 10".
 use crate::derivations::Judgment::{self, Affirms, Truth};
 use crate::derivations::DEEPEST;
-use crate::parts::{bytes, Kind, Parts};
-use crate::random::Random;
-use crate::steps::*;
-use crate::table::Entry::{And, Atom, Implies, Or, Says};
-use crate::table::Table;
+use crate::identity::identity;
+use crate::parts::{Kind, Parts};
+use builder::random::Random;
+use builder::steps::*;
+use builder::table::Entry::{And, Atom, Implies, Or, Says};
+use builder::table::Table;
 
-/// Statements from which a branch of any depth can be made: P, P and Q, P or Q, P implies Q, K says Q.
+/// Statements from which a branch of any depth can be made: P, P and Q, P or Q, P implies Q, K says
+/// Q.
 struct Supplies {
     p: u16,
     and: u16,
@@ -21,7 +23,7 @@ impl Supplies {
     fn new(table: &mut Table, random: &mut Random) -> Supplies {
         let atom = random.name();
         let (p, q) = (table.number(Atom(atom)), table.number(Atom(atom ^ 1)));
-        let (and, or, implies) = (table.number(And(p, q)), table.number(Or(p, q)), table.number(Implies(p, q)));
+        let [and, or, implies] = [And(p, q), Or(p, q), Implies(p, q)].map(|e| table.number(e));
         let principal = random.name();
         let says = table.number(Says(principal, q));
         Supplies { p, and, or, implies, principal, says }
@@ -31,8 +33,8 @@ impl Supplies {
         vec![self.p, self.and, self.or, self.implies, self.says]
     }
 
-    /// A proof of P, or of K says P, whose deepest step has exactly this depth. What closes the other premises comes after the branch where the
-    /// branch goes into the first of them.
+    /// A proof of P, or of K says P, whose deepest step has exactly this depth. What closes the
+    /// other premises comes after the branch where the branch goes into the first of them.
     fn proof(&self, random: &mut Random, says: bool, deepest: usize) -> Vec<u16> {
         let closed = |goal: Judgment| match goal {
             Truth(_) => vec![self.p],
@@ -87,7 +89,8 @@ impl Supplies {
     }
 }
 
-/// A record or an exchange file with a deep proof; some stop short, or have a wrong word, just where the depth is passed.
+/// A record or an exchange file with a deep proof; some stop short, or have a wrong word, just
+/// where the depth is passed.
 pub fn deep(random: &mut Random, kind: Kind) -> Vec<u8> {
     let mut table = Table::default();
     let supplies = Supplies::new(&mut table, random);
@@ -101,7 +104,8 @@ pub fn deep(random: &mut Random, kind: Kind) -> Vec<u8> {
             let from = supplies.statements();
             let mut to = from.clone();
             to.push(goal);
-            let mut proofs: Vec<Vec<u16>> = to.iter().chain(&from).map(|&formula| identity(&table, formula)).collect();
+            let due = to.iter().chain(&from);
+            let mut proofs: Vec<Vec<u16>> = due.map(|&goal| identity(&table, goal)).collect();
             proofs[from.len()] = proof;
             if random.one_in(2) {
                 // a second proof that is deep as well: depth starts again at 1
@@ -113,7 +117,11 @@ pub fn deep(random: &mut Random, kind: Kind) -> Vec<u8> {
     };
     match random.below(6) {
         // the words end where the next step would be too deep: 9 comes before 10
-        0 => parts.steps.truncate(first_too_deep(&parts).unwrap_or(parts.steps.len())),
+        0 => {
+            if let Some(at) = first_too_deep(&parts) {
+                parts.steps.truncate(at);
+            }
+        }
         // too deep and of no rule: 10 comes before 11 and 12
         1 => {
             if let Some(at) = first_too_deep(&parts) {
@@ -122,10 +130,11 @@ pub fn deep(random: &mut Random, kind: Kind) -> Vec<u8> {
         }
         _ => {}
     }
-    bytes(&parts.words())
+    parts.bytes()
 }
 
-/// The place of the first step whose depth is 513, in steps of which nothing but the depth is wrong.
+/// The place of the first step whose depth is 513, in steps of which nothing but the depth is
+/// wrong.
 fn first_too_deep(parts: &Parts) -> Option<usize> {
     let mut open = vec![];
     for (place, &step) in parts.steps.iter().enumerate() {

@@ -1,12 +1,14 @@
-//! Random derivations with every rule, grown from the goal upward. A formula that a leaf needs and that is not held becomes a statement, which
-//! leaves all earlier steps right: there are only more hypotheses.
-use crate::random::Random;
-use crate::slips::Slip;
-use crate::steps::*;
-use crate::table::Entry::{And, Atom, False, Implies, Or, Says};
-use crate::table::Table;
+//! Random derivations with every rule, grown from the goal upward. A formula that a leaf needs and
+//! that is not held becomes a statement, which leaves all earlier steps right: there are only more
+//! hypotheses.
+use crate::identity::push_identity;
+use crate::random_table::RandomTable;
+use builder::random::Random;
+use builder::steps::*;
+use builder::table::Entry::{self, And, Atom, False, Implies, Or, Says};
 
-/// "a goal is a truth of one formula or an affirmation of one formula by one principal"; formulas by number.
+/// "a goal is a truth of one formula or an affirmation of one formula by one principal"; formulas
+/// by number.
 #[derive(Clone, Copy, Debug, PartialEq, Eq)]
 pub enum Judgment {
     Truth(u16),
@@ -16,10 +18,14 @@ use Judgment::{Affirms, Truth};
 
 pub const DEEPEST: usize = 512;
 
+/// A wrong reading of a rule. Given a goal, the number of steps and their depth, it follows the
+/// reading and goes on, and says true; or it says false where the reading doesn't fit the goal.
+pub type Slip = fn(&mut Grower, Judgment, usize, usize) -> bool;
+
 /// A derivation that grows: the hypotheses held at this place and the steps so far.
 pub struct Grower<'a> {
     pub random: &'a mut Random,
-    pub table: &'a mut Table,
+    pub table: &'a mut RandomTable,
     pub statements: Vec<u16>,
     /// How many statements more may be made up.
     pub room: usize,
@@ -28,13 +34,14 @@ pub struct Grower<'a> {
     /// For each formula, how often it is a statement or added.
     held: Vec<u32>,
     pub steps: Vec<u16>,
-    /// A wrong reading of a rule, to be followed once.
+    /// To be followed once.
     pub slip: Option<Slip>,
 }
 
 impl<'a> Grower<'a> {
-    pub fn new(random: &'a mut Random, table: &'a mut Table, room: usize) -> Grower<'a> {
-        Grower { random, table, statements: vec![], room, added: vec![], held: vec![], steps: vec![], slip: None }
+    pub fn new(random: &'a mut Random, table: &'a mut RandomTable, room: usize) -> Grower<'a> {
+        let (statements, added, held, steps) = (vec![], vec![], vec![], vec![]);
+        Grower { random, table, statements, room, added, held, steps, slip: None }
     }
 
     pub fn holds(&self, formula: u16) -> bool {
@@ -79,7 +86,7 @@ impl<'a> Grower<'a> {
 
     /// False, where it is held.
     fn falsehood(&self) -> Option<u16> {
-        self.table.falsehood().filter(|&number| self.holds(number))
+        self.table.find(False).filter(|&number| self.holds(number))
     }
 
     /// The fewest steps that are sure to prove the goal here.
@@ -96,16 +103,17 @@ impl<'a> Grower<'a> {
         self.room > 0 || self.holds(formula) || self.falsehood().is_some()
     }
 
-    /// A derivation of the goal of exactly so many steps, not fewer than the least. The first of them has the given depth.
+    /// A derivation of the goal of exactly so many steps, not fewer than the least. The first of
+    /// them has the given depth.
     pub fn grow(&mut self, goal: Judgment, steps: usize, depth: usize) {
-        let slipped = self.try_slip(goal, steps, depth);
-        if slipped {
+        if self.try_slip(goal, steps, depth) {
             return;
         }
         if steps <= self.least(goal) {
             return self.finish(goal);
         }
-        // where the steps would not fit below the greatest depth as one branch, and little depth is left, they are halved
+        // where the steps would not fit below the greatest depth as one branch, and little depth is
+        // left, they are halved
         let left = DEEPEST.saturating_sub(depth);
         if steps > left && left < 64 && steps > 2 * self.least(goal) {
             let (first, half) = (self.some_or(), (steps - 1) / 2);
@@ -132,6 +140,23 @@ impl<'a> Grower<'a> {
         self.left(named, goal, steps, depth);
     }
 
+    /// Follows the slip here where it fits, mostly; whether it was followed, and so the goal's
+    /// steps stand.
+    fn try_slip(&mut self, goal: Judgment, steps: usize, depth: usize) -> bool {
+        let Some(slip) = self.slip else { return false };
+        if self.random.one_in(4) || steps < 2 {
+            return false;
+        }
+        self.slip = None;
+        let mark = self.added.len();
+        let followed = slip(self, goal, steps, depth);
+        self.take_back(mark);
+        if !followed {
+            self.slip = Some(slip);
+        }
+        followed
+    }
+
     /// The shortest proof: from false, or from the formula itself.
     fn finish(&mut self, goal: Judgment) {
         let (affirmed, formula) = match goal {
@@ -139,7 +164,8 @@ impl<'a> Grower<'a> {
             Affirms(_, a) => (true, a),
         };
         if let Some(falsehood) = self.falsehood() {
-            if affirmed || self.table.identity_steps(formula) > 1 || !self.holds(formula) || self.random.one_in(2) {
+            let is_longer = affirmed || self.table.identity_steps(formula) > 1;
+            if is_longer || !self.holds(formula) || self.random.one_in(2) {
                 return self.step(FALSE_LEFT + falsehood);
             }
         }
@@ -158,7 +184,10 @@ impl<'a> Grower<'a> {
     /// So many steps as two parts that are not below their least numbers, if there are such.
     fn split(&mut self, steps: usize, least: [usize; 2]) -> Option<[usize; 2]> {
         let spare = steps.checked_sub(least[0] + least[1])?;
-        let more = if self.random.one_in(2) { spare.min(self.random.below(4)) } else { self.random.below(spare + 1) };
+        let more = match self.random.one_in(2) {
+            true => spare.min(self.random.below(4)),
+            false => self.random.below(spare + 1),
+        };
         let more = if self.random.one_in(2) { more } else { spare - more };
         Some([least[0] + more, least[1] + spare - more])
     }
@@ -192,7 +221,8 @@ impl<'a> Grower<'a> {
                     if self.room < 2 && !(self.can_be_due(a) && self.can_be_due(b)) {
                         return false;
                     }
-                    let Some([first, second]) = self.split(above, [self.least(Truth(a)), self.least(Truth(b))]) else { return false };
+                    let least = [a, b].map(|side| self.least(Truth(side)));
+                    let Some([first, second]) = self.split(above, least) else { return false };
                     self.step(AND_RIGHT);
                     self.grow(Truth(a), first, depth + 1);
                     self.grow(Truth(b), second, depth + 1);
@@ -218,7 +248,8 @@ impl<'a> Grower<'a> {
                 self.grow(goal, above, depth + 1);
             }
             (Implies(a, b), _) if self.can_be_due(a) => {
-                let Some([first, second]) = self.split(above, [self.least(Truth(a)), least]) else { return false };
+                let least = [self.least(Truth(a)), least];
+                let Some([first, second]) = self.split(above, least) else { return false };
                 self.step(IMPLIES_LEFT + named);
                 self.grow(Truth(a), first, depth + 1);
                 self.take_back(mark);
@@ -226,7 +257,8 @@ impl<'a> Grower<'a> {
                 self.grow(goal, second, depth + 1);
             }
             (Or(..), _) => {
-                let Some([first, second]) = self.split(above, [least, least]) else { return false };
+                let least = [least, least];
+                let Some([first, second]) = self.split(above, least) else { return false };
                 self.or_left(named, goal, first, second, depth);
             }
             _ => return false,
@@ -248,12 +280,13 @@ impl<'a> Grower<'a> {
 
     /// A hypothesis, the last ones more often.
     pub fn some_hypothesis(&mut self) -> Option<u16> {
-        let (statements, added) = (self.statements.len(), self.added.len());
-        if statements + added == 0 {
+        let count = self.statements.len() + self.added.len();
+        if count == 0 {
             return None;
         }
-        let back = if self.random.one_in(2) { self.random.below((statements + added).min(3)) } else { self.random.below(statements + added) };
-        Some(if back < added { self.added[added - 1 - back] } else { self.statements[statements - 1 - (back - added)] })
+        let last = self.random.one_in(2);
+        let back = self.random.below(if last { count.min(3) } else { count });
+        self.statements.iter().chain(&self.added).nth_back(back).copied()
     }
 
     /// A formula that some left rule with this goal can name.
@@ -262,7 +295,8 @@ impl<'a> Grower<'a> {
             Truth(a) | Affirms(_, a) => a,
         };
         let a = self.table.formula(self.random, 1);
-        let b = if self.random.one_in(3) { formula } else { self.table.formula(self.random, 1) };
+        let again = self.random.one_in(3);
+        let b = if again { formula } else { self.table.formula(self.random, 1) };
         let entry = match (goal, self.random.below(5)) {
             (Affirms(principal, _), 0 | 1) => Says(principal, b),
             (_, 0) => And(a, b),
@@ -274,16 +308,19 @@ impl<'a> Grower<'a> {
 
     /// An and-formula that is held; its left rule only makes a proof longer.
     fn some_and(&mut self) -> u16 {
-        let found = self.statements.iter().copied().find(|&number| matches!(self.table.entry(number), And(..)));
-        found.unwrap_or_else(|| self.made(And))
+        self.stated(|entry| matches!(entry, And(..))).unwrap_or_else(|| self.made(And))
     }
 
     fn some_or(&mut self) -> u16 {
-        let found = self.statements.iter().copied().find(|&number| matches!(self.table.entry(number), Or(..)));
-        found.unwrap_or_else(|| self.made(Or))
+        self.stated(|entry| matches!(entry, Or(..))).unwrap_or_else(|| self.made(Or))
     }
 
-    fn made(&mut self, kind: fn(u16, u16) -> crate::table::Entry) -> u16 {
+    /// The first statement of a kind.
+    fn stated(&self, is_wanted: fn(Entry) -> bool) -> Option<u16> {
+        self.statements.iter().copied().find(|&number| is_wanted(self.table.entry(number)))
+    }
+
+    fn made(&mut self, kind: fn(u16, u16) -> Entry) -> u16 {
         let (a, b) = (self.table.formula(self.random, 0), self.table.formula(self.random, 0));
         let number = self.table.number(kind(a, b));
         self.need(number);

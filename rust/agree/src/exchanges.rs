@@ -1,11 +1,12 @@
 //! Exchange files whose two lists are of equal force, with all their proofs.
-use crate::derivations::{Grower, Judgment};
+use crate::derivations::{Grower, Judgment, Slip};
+use crate::identity::identity;
 use crate::parts::Parts;
-use crate::random::Random;
-use crate::slips::{self, Slip};
-use crate::steps::*;
-use crate::table::Entry::{self, And, False, Implies, Or, Says};
-use crate::table::Table;
+use crate::random_table::RandomTable;
+use crate::slips;
+use builder::random::Random;
+use builder::steps::*;
+use builder::table::Entry::{self, And, False, Implies, Or, Says};
 
 /// A statement of one list and a proof of it from the other.
 type Proved = (u16, Vec<u16>);
@@ -17,9 +18,10 @@ struct Lists {
     second: Vec<Proved>,
 }
 
-/// A small exchange file; also two empty lists, and one empty list against what needs no hypothesis.
+/// A small exchange file; also two empty lists, and one empty list against what needs no
+/// hypothesis.
 pub fn small(random: &mut Random, slip: Option<Slip>) -> Parts {
-    let mut table = Table::default();
+    let mut table = RandomTable::default();
     let unused = random.below(3);
     table.fill(random, unused);
     let mut lists = Lists::default();
@@ -39,15 +41,19 @@ fn after(start: &[u16], proofs: &[&[u16]]) -> Vec<u16> {
 
 impl Lists {
     /// Lists with a common part, and on each side formulas that follow from it, with grown proofs.
-    fn consequences(&mut self, table: &mut Table, random: &mut Random, slip: Option<Slip>) {
+    fn consequences(&mut self, table: &mut RandomTable, random: &mut Random, slip: Option<Slip>) {
         let mut grower = Grower::new(random, table, 40);
         grower.slip = slip;
         for _ in 0..grower.random.between(1, 3) {
-            let goal = if slip.is_some() { slips::goal(grower.random, grower.table, 2) } else { grower.table.formula(grower.random, 2) };
+            let goal = match slip {
+                Some(_) => slips::goal(grower.random, grower.table, 2),
+                None => grower.table.formula(grower.random, 2),
+            };
             let length = grower.random.between(1, 16).max(grower.least(Judgment::Truth(goal)));
             grower.grow(Judgment::Truth(goal), length, 1);
             let proof = std::mem::take(&mut grower.steps);
-            if grower.random.one_in(2) { &mut self.first } else { &mut self.second }.push((goal, proof));
+            let list = if grower.random.one_in(2) { &mut self.first } else { &mut self.second };
+            list.push((goal, proof));
         }
         let common = grower.statements;
         for formula in common {
@@ -58,7 +64,7 @@ impl Lists {
     }
 
     /// A few statements for each list, which prove one another.
-    fn pair(&mut self, table: &mut Table, random: &mut Random) {
+    fn pair(&mut self, table: &mut RandomTable, random: &mut Random) {
         let [a, b, c] = [1, 1, 0].map(|levels| table.formula(random, levels));
         let k = random.name();
         let [by_a, by_b, by_c] = [a, b, c].map(|formula| identity(table, formula));
@@ -70,39 +76,46 @@ impl Lists {
             1 => {
                 let x = number(And(a, b));
                 let of_x = |proof: &[u16]| after(&[AND_LEFT + x], &[proof]);
-                (vec![(a, of_x(&by_a)), (b, of_x(&by_b))], vec![(x, after(&[AND_RIGHT], &[&by_a, &by_b]))])
+                let of_both = after(&[AND_RIGHT], &[&by_a, &by_b]);
+                (vec![(a, of_x(&by_a)), (b, of_x(&by_b))], vec![(x, of_both)])
             }
             // A, A implies B | A, B
             2 => {
                 let x = number(Implies(a, b));
+                let of_x = after(&[IMPLIES_RIGHT], &[&by_b]);
                 let of_b = after(&[IMPLIES_LEFT + x], &[&by_a, &by_b]);
-                (vec![(a, by_a.clone()), (x, after(&[IMPLIES_RIGHT], &[&by_b]))], vec![(a, by_a), (b, of_b)])
+                (vec![(a, by_a.clone()), (x, of_x)], vec![(a, by_a), (b, of_b)])
             }
             // A | A or A
             3 => {
                 let x = number(Or(a, a));
                 let side = random.pick(&[OR_RIGHT_FIRST, OR_RIGHT_SECOND]);
-                (vec![(a, after(&[OR_LEFT + x], &[&by_a, &by_a]))], vec![(x, after(&[side], &[&by_a]))])
+                let of_a = after(&[OR_LEFT + x], &[&by_a, &by_a]);
+                (vec![(a, of_a)], vec![(x, after(&[side], &[&by_a]))])
             }
             // A | A, K says A
             4 => {
                 let x = number(Says(k, a));
-                (vec![(a, by_a.clone())], vec![(a, by_a.clone()), (x, after(&[SAYS_RIGHT, AFFIRM], &[&by_a]))])
+                let of_x = after(&[SAYS_RIGHT, AFFIRM], &[&by_a]);
+                (vec![(a, by_a.clone())], vec![(a, by_a), (x, of_x)])
             }
             // K says A | K says K says A
             5 => {
                 let x = number(Says(k, a));
                 let y = number(Says(k, x));
-                let of_x = after(&[SAYS_RIGHT, SAYS_LEFT + y, SAYS_LEFT + x, AFFIRM], &[&by_a]);
-                let of_y = after(&[SAYS_RIGHT, AFFIRM, SAYS_RIGHT, SAYS_LEFT + x, AFFIRM], &[&by_a]);
+                let open_x = [SAYS_LEFT + x, AFFIRM];
+                let of_x = after(&[SAYS_RIGHT, SAYS_LEFT + y], &[&open_x, &by_a]);
+                let of_y = after(&[SAYS_RIGHT, AFFIRM, SAYS_RIGHT], &[&open_x, &by_a]);
                 (vec![(x, of_x)], vec![(y, of_y)])
             }
             // K says (A and B) | K says A, K says B
             6 => {
                 let (both, x, y) = (number(And(a, b)), number(Says(k, a)), number(Says(k, b)));
                 let z = number(Says(k, both));
-                let of = |proof: &[u16]| after(&[SAYS_RIGHT, SAYS_LEFT + z, AND_LEFT + both, AFFIRM], &[proof]);
-                let of_z = after(&[SAYS_RIGHT, SAYS_LEFT + x, SAYS_LEFT + y, AFFIRM, AND_RIGHT], &[&by_a, &by_b]);
+                let open_z = [SAYS_RIGHT, SAYS_LEFT + z, AND_LEFT + both, AFFIRM];
+                let of = |proof: &[u16]| after(&open_z, &[proof]);
+                let open_both = [SAYS_RIGHT, SAYS_LEFT + x, SAYS_LEFT + y, AFFIRM, AND_RIGHT];
+                let of_z = after(&open_both, &[&by_a, &by_b]);
                 (vec![(z, of_z)], vec![(x, of(&by_a)), (y, of(&by_b))])
             }
             // false | false, A
@@ -115,18 +128,25 @@ impl Lists {
             8 => {
                 let (inner, both) = (number(Implies(b, c)), number(And(a, b)));
                 let (x, y) = (number(Implies(a, inner)), number(Implies(both, c)));
-                let of_x = after(&[IMPLIES_RIGHT, IMPLIES_RIGHT, IMPLIES_LEFT + y, AND_RIGHT], &[&by_a, &by_b, &by_c]);
-                let of_y = after(&[IMPLIES_RIGHT, AND_LEFT + both, IMPLIES_LEFT + x], &[&by_a, &[IMPLIES_LEFT + inner], &by_b, &by_c]);
+                let open_x = [IMPLIES_RIGHT, IMPLIES_RIGHT, IMPLIES_LEFT + y, AND_RIGHT];
+                let of_x = after(&open_x, &[&by_a, &by_b, &by_c]);
+                let open_y = [IMPLIES_RIGHT, AND_LEFT + both, IMPLIES_LEFT + x];
+                let of_y = after(&open_y, &[&by_a, &[IMPLIES_LEFT + inner], &by_b, &by_c]);
                 (vec![(x, of_x)], vec![(y, of_y)])
             }
             // (A or B) implies C | A implies C, B implies C
             9 => {
-                let (either, y, z) = (number(Or(a, b)), number(Implies(a, c)), number(Implies(b, c)));
+                let (either, y, z) =
+                    (number(Or(a, b)), number(Implies(a, c)), number(Implies(b, c)));
                 let x = number(Implies(either, c));
-                let of = |side: u16, proof: &[u16]| after(&[IMPLIES_RIGHT, IMPLIES_LEFT + x, side], &[proof, &by_c]);
-                let of_x = [&[IMPLIES_LEFT + y][..], &by_a, &by_c, &[IMPLIES_LEFT + z], &by_b, &by_c];
-                let of_x = after(&[IMPLIES_RIGHT, OR_LEFT + either], &of_x);
-                (vec![(x, of_x)], vec![(y, of(OR_RIGHT_FIRST, &by_a)), (z, of(OR_RIGHT_SECOND, &by_b))])
+                let of = |side: u16, proof: &[u16]| {
+                    after(&[IMPLIES_RIGHT, IMPLIES_LEFT + x, side], &[proof, &by_c])
+                };
+                let (of_y, of_z) = (of(OR_RIGHT_FIRST, &by_a), of(OR_RIGHT_SECOND, &by_b));
+                let cases =
+                    [&[IMPLIES_LEFT + y][..], &by_a, &by_c, &[IMPLIES_LEFT + z], &by_b, &by_c];
+                let of_x = after(&[IMPLIES_RIGHT, OR_LEFT + either], &cases);
+                (vec![(x, of_x)], vec![(y, of_y), (z, of_z)])
             }
             // A, A implies false | false
             10 if random.one_in(3) => {
@@ -145,7 +165,7 @@ impl Lists {
     }
 
     /// The file: each list in any order, with repeats, and some proofs longer than they need be.
-    fn in_file(mut self, mut table: Table, random: &mut Random) -> Parts {
+    fn in_file(mut self, mut table: RandomTable, random: &mut Random) -> Parts {
         for list in [&mut self.first, &mut self.second] {
             while !list.is_empty() && random.one_in(4) {
                 list.push(list[random.below(list.len())].clone());
@@ -157,7 +177,8 @@ impl Lists {
         let mut proofs = vec![];
         for (from, list) in [(&first, self.second), (&second, self.first)] {
             for (_, proof) in list {
-                proofs.push(if !from.is_empty() && random.one_in(3) { longer(&table, random, from, proof) } else { proof });
+                let is_longer = !from.is_empty() && random.one_in(3);
+                proofs.push(if is_longer { longer(&table, random, from, proof) } else { proof });
             }
         }
         let unused = table.len().max(1) + random.below(3);
@@ -172,7 +193,7 @@ impl Lists {
 }
 
 /// The proof after a left rule that it does not need.
-fn longer(table: &Table, random: &mut Random, from: &[u16], proof: Vec<u16>) -> Vec<u16> {
+fn longer(table: &RandomTable, random: &mut Random, from: &[u16], proof: Vec<u16>) -> Vec<u16> {
     let named = random.pick(from);
     match table.entry(named) {
         And(..) => after(&[AND_LEFT + named], &[&proof]),

@@ -1,10 +1,15 @@
-//! The fixed set of the tests: small exhaustive pieces, a run of seeded files, larger exhaustive pieces, and the largest files.
+//! The fixed set of the tests: small exhaustive pieces, a run of seeded files, larger exhaustive
+//! pieces, and the largest files.
 use crate::given::{given, Given};
 use crate::largest::largest;
-use crate::parts::{bytes, Kind, Parts};
-use crate::random::Random;
+use crate::parts::{Kind, Parts};
 use crate::raw::LIMITS;
 use crate::{exchanges, records};
+use builder::layout::bytes;
+use builder::random::Random;
+use builder::samples::{A, K, T};
+use builder::steps::part;
+use builder::table::Entry::{self, And, Atom, False, Implies, Or};
 
 /// How many seeded files the set has.
 pub const SEEDED: u64 = 300_000;
@@ -28,8 +33,8 @@ impl Fixed {
             pieces.extend(near(&words, kind));
         }
         pieces.push(Piece { count: SEEDED, make: Box::new(|number| given(SEED, number)) });
-        for (words, kind) in [(record_a(), Kind::Record), (exchange_k(), Kind::Exchange)] {
-            pieces.extend((0..words.len()).map(|at| any_word(&words, kind, at)));
+        for (words, kind) in [(&A[..], Kind::Record), (&K, Kind::Exchange)] {
+            pieces.extend((0..words.len()).map(|at| any_word(words, kind, at)));
         }
         pieces.extend(all_short_proofs());
         pieces.push(Piece { count: 96, make: Box::new(largest_files) });
@@ -61,19 +66,9 @@ fn fixed(kind: Kind, file: Vec<u8>) -> Given {
     Given { family: "fixed", kind, file, room: 256, to_both: true }
 }
 
-/// "Record A uses entries 0 and 1 only, as words: 2 1 4 1, 0 20487, 0 0, 1, 40960 45057 4096 0."
-fn record_a() -> Vec<u16> {
-    vec![2, 1, 4, 1, 0, 20487, 0, 0, 1, 40960, 45057, 4096, 0]
-}
-
-/// "K m, exchange, table atom 0, atom 1, their and (head 12288, second 1): lists [2] and [0, 1], steps 24578 0 24578 1 20480 0 1"
-fn exchange_k() -> Vec<u16> {
-    vec![3, 1, 2, 7, 0, 1, 12288, 0, 0, 1, 2, 0, 1, 24578, 0, 24578, 1, 20480, 0, 1]
-}
-
 /// Right files from which the near misses are made: 01's, and some grown ones.
 fn small_files() -> Vec<(Vec<u16>, Kind)> {
-    let mut files = vec![(record_a(), Kind::Record), (exchange_k(), Kind::Exchange)];
+    let mut files = vec![(A.to_vec(), Kind::Record), (K.to_vec(), Kind::Exchange)];
     for number in 0..12 {
         let random = &mut Random::of(3, number);
         let parts = match number % 3 {
@@ -86,8 +81,8 @@ fn small_files() -> Vec<(Vec<u16>, Kind)> {
     files
 }
 
-/// Every near miss of some sorts: each word changed to each of some values; each word dropped or doubled; each two words swapped; the file cut
-/// at each byte, and longer by a few.
+/// Every near miss of some sorts: each word changed to each of some values; each word dropped or
+/// doubled; each two words swapped; the file cut at each byte, and longer by a few.
 fn near(words: &[u16], kind: Kind) -> Vec<Piece> {
     let count = words.len() as u64;
     let piece = |count: u64, change: Change| {
@@ -106,7 +101,7 @@ fn near(words: &[u16], kind: Kind) -> Vec<Piece> {
             0 => words[at].wrapping_add(1),
             1 => words[at].wrapping_sub(1),
             // another code with the same part
-            2..18 => (value - 2) as u16 * 4096 + words[at] % 4096,
+            2..18 => (value - 2) as u16 * 4096 + part(words[at]),
             _ => *LIMITS.get(value - 18).unwrap_or_else(|| &words[value - 18 - LIMITS.len()]),
         };
     };
@@ -121,9 +116,22 @@ fn near(words: &[u16], kind: Kind) -> Vec<Piece> {
             }),
         ),
         piece(count, Box::new(|words, at| words.insert(at as usize, words[at as usize]))),
-        piece(count * count, Box::new(move |words, number| words.swap((number / count) as usize, (number % count) as usize))),
-        Piece { count: whole.len() as u64, make: Box::new(move |length| fixed(kind, cut[..length as usize].to_vec())) },
-        Piece { count: 16, make: Box::new(move |more| fixed(kind, [&whole[..], &vec![more as u8; more as usize + 1]].concat())) },
+        piece(
+            count * count,
+            Box::new(move |words, number| {
+                words.swap((number / count) as usize, (number % count) as usize)
+            }),
+        ),
+        Piece {
+            count: whole.len() as u64,
+            make: Box::new(move |length| fixed(kind, cut[..length as usize].to_vec())),
+        },
+        Piece {
+            count: 16,
+            make: Box::new(move |more| {
+                fixed(kind, [&whole[..], &vec![more as u8; more as usize + 1]].concat())
+            }),
+        },
     ]
 }
 
@@ -138,16 +146,15 @@ fn any_word(words: &[u16], kind: Kind, at: usize) -> Piece {
     Piece { count: 65_536, make: Box::new(make) }
 }
 
-/// All step words of length 1 to 3 with codes up to 12 and parts up to 2, over 01's table T and over one with implies, and, or and false, for a
-/// few statements and goals.
+/// All step words of length 1 to 3 with codes up to 12 and parts up to 2, over 01's table T and
+/// over one with implies, and, or and false, for a few statements and goals.
 fn all_short_proofs() -> Vec<Piece> {
-    let t = (vec![0, 20487, 20488], vec![0, 0, 0]);
-    let connected = |kind: u16| (vec![0, 4096, kind * 4096], vec![0, 0, 1]);
+    let over_both = |entry: Entry| [Atom(0), False, entry].map(Entry::words);
+    let [implies, and, or] = [Implies(0, 1), And(0, 1), Or(0, 1)].map(over_both);
     let mut pieces = vec![];
-    for (table, goal) in [(t.clone(), 0), (t, 1), (connected(2), 2), (connected(3), 2), (connected(4), 2), (connected(2), 0)] {
+    for (table, goal) in [(T, 0), (T, 1), (implies, 2), (and, 2), (or, 2), (implies, 0)] {
         for statements in [vec![0], vec![2, 1]] {
-            let (heads, seconds) = table.clone();
-            let parts = Parts { kind: Kind::Record, heads, seconds, first: statements, second: vec![], goal, steps: vec![], proofs: vec![0] };
+            let parts = Parts::record(&table, statements, goal, vec![]);
             let make = move |number: u64| {
                 let mut parts = parts.clone();
                 let mut rest = number;
@@ -157,7 +164,7 @@ fn all_short_proofs() -> Vec<Piece> {
                     rest /= 40;
                     parts.steps.extend((word > 0).then(|| (word - 1) / 3 * 4096 + (word - 1) % 3));
                 }
-                Given { to_both: false, ..fixed(Kind::Record, bytes(&parts.words())) }
+                Given { to_both: false, ..fixed(Kind::Record, parts.bytes()) }
             };
             pieces.push(Piece { count: 40 * 40 * 40, make: Box::new(make) });
         }
@@ -165,20 +172,18 @@ fn all_short_proofs() -> Vec<Piece> {
     pieces
 }
 
-/// Each size at its largest or not; the file as it is, or with one formula, statement or step more than there were.
+/// Each size at its largest or not; the file as it is, or with one formula, statement or step more
+/// than there were.
 fn largest_files(number: u64) -> Given {
     let random = &mut Random::of(5, number);
     let kind = if number & 1 == 0 { Kind::Record } else { Kind::Exchange };
     let full = [number & 2 > 0, number & 4 > 0, number & 8 > 0];
     let mut parts = largest(random, kind, full);
     match number / 16 {
-        3 => {
-            parts.heads.push(0);
-            parts.seconds.push(0);
-        }
+        3 => parts.table.push((0, 0)),
         4 => parts.first.push(0),
         5 => parts.steps.push(0),
         _ => {}
     }
-    Given { family: "largest", ..fixed(kind, bytes(&parts.words())) }
+    Given { family: "largest", ..fixed(kind, parts.bytes()) }
 }

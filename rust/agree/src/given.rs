@@ -1,8 +1,7 @@
 //! One file that both checkers are given, and which one it is by its seed and number.
-use crate::parts::{bytes, Kind, Parts};
-use crate::random::Random;
-use crate::slips::Slip;
-use crate::{deep, exchanges, largest, misses, noise, raw, records};
+use crate::parts::{Kind, Parts};
+use crate::{deep, exchanges, largest, misses, noise, raw, records, slips};
+use builder::random::Random;
 
 /// A file, and how it is given.
 #[derive(Clone, Debug)]
@@ -26,15 +25,18 @@ pub fn given(seed: u64, number: u64) -> Given {
     let kind = if random.one_in(3) { Kind::Exchange } else { Kind::Record };
     match random.below(4000) {
         0 => large(random, kind),
-        1..=8 => plain(random, "deep", kind, |random| deep::deep(random, kind)),
-        9..=600 => plain(random, "noise", kind, |random| noise::noise(random, kind)),
+        1..=8 => plain(random, "deep", kind, deep::deep),
+        9..=600 => plain(random, "noise", kind, noise::noise),
         601..=1600 => {
             let parts = right(random, kind);
             of_parts(random, "right", &parts)
         }
         1601..=2100 => {
-            let slip = Some(Slip::any(random));
-            let parts = if kind == Kind::Record { records::small(random, slip) } else { exchanges::small(random, slip) };
+            let slip = Some(slips::any(random));
+            let parts = match kind {
+                Kind::Record => records::small(random, slip),
+                Kind::Exchange => exchanges::small(random, slip),
+            };
             of_parts(random, "slip", &parts)
         }
         _ => {
@@ -85,11 +87,13 @@ fn of_parts(random: &mut Random, family: &'static str, parts: &Parts) -> Given {
         5 => random.below(300),
         _ => 256,
     };
-    Given { family, kind: parts.kind, file: bytes(&parts.words()), room, to_both: random.one_in(16) }
+    Given { family, kind: parts.kind, file: parts.bytes(), room, to_both: random.one_in(16) }
 }
 
-fn plain(random: &mut Random, family: &'static str, kind: Kind, file: impl Fn(&mut Random) -> Vec<u8>) -> Given {
-    let file = file(random);
+type Make = fn(&mut Random, Kind) -> Vec<u8>;
+
+fn plain(random: &mut Random, family: &'static str, kind: Kind, make: Make) -> Given {
+    let file = make(random, kind);
     let room = if random.one_in(4) { random.below(4) } else { 256 };
     Given { family, kind, file, room, to_both: random.one_in(4) }
 }

@@ -1,10 +1,11 @@
-//! Files of the largest sizes, exactly: 4,096 formulas, 256 statements (in each list), 16,384 steps.
+//! Files of the largest sizes, exactly: 4,096 formulas, 256 statements (in each list), 16,384
+//! steps.
 use crate::derivations::Grower;
 use crate::derivations::Judgment::Truth;
 use crate::parts::{Kind, Parts};
-use crate::random::Random;
-use crate::table::Entry::{And, Atom, Implies, Or, Says};
-use crate::table::Table;
+use crate::random_table::RandomTable;
+use builder::random::Random;
+use builder::table::Entry::{And, Atom, Implies, Or, Says};
 
 /// Each of the sizes is the largest or not.
 pub fn some_largest(random: &mut Random, kind: Kind) -> Parts {
@@ -17,7 +18,7 @@ pub fn largest(random: &mut Random, kind: Kind, full: [bool; 3]) -> Parts {
     let formulas = if full[0] { 4096 } else { random.between(300, 600) };
     let statements = if full[1] { 256 } else { random.between(24, 40) };
     let steps = if full[2] { 16384 } else { random.between(4000, 8000) };
-    let mut table = Table::default();
+    let mut table = RandomTable::default();
     let stated = supplies(&mut table, random, statements);
     let parts = match kind {
         Kind::Record => {
@@ -55,10 +56,12 @@ pub fn largest(random: &mut Random, kind: Kind, full: [bool; 3]) -> Parts {
     }
 }
 
-/// So many statements over a few atoms, some of them equal, some signed, all with a short proof from themselves.
-fn supplies(table: &mut Table, random: &mut Random, count: usize) -> Vec<u16> {
+/// So many statements over a few atoms, some of them equal, some signed, all with a short proof
+/// from themselves.
+fn supplies(table: &mut RandomTable, random: &mut Random, count: usize) -> Vec<u16> {
     let [p, q, r] = [0, 1, 2].map(|atom| table.number(Atom(atom)));
-    let mut stated = vec![p, q, table.number(And(p, q)), table.number(Or(q, p)), table.number(Implies(p, r)), table.number(Says(7, q))];
+    let mut stated = vec![p, q];
+    stated.extend([And(p, q), Or(q, p), Implies(p, r), Says(7, q)].map(|e| table.number(e)));
     while stated.len() < count {
         let (a, b) = (random.pick(&[p, q, r]), random.pick(&[p, q]));
         let entry = match random.below(8) {
@@ -76,7 +79,13 @@ fn supplies(table: &mut Table, random: &mut Random, count: usize) -> Vec<u16> {
 }
 
 /// A proof of one of the statements with exactly so many steps, and no new statement.
-fn proof(table: &mut Table, random: &mut Random, stated: &[u16], goal: u16, steps: usize) -> Vec<u16> {
+fn proof(
+    table: &mut RandomTable,
+    random: &mut Random,
+    stated: &[u16],
+    goal: u16,
+    steps: usize,
+) -> Vec<u16> {
     let mut grower = Grower::new(random, table, 0);
     stated.iter().for_each(|&statement| grower.state(statement));
     grower.grow(Truth(goal), steps.max(grower.least(Truth(goal))), 1);

@@ -1,8 +1,11 @@
-//! Many generated files, on which the proved checker (`wethrynda`) and the second checker (`second_checker`) have to agree: answer, number, place,
-//! signers; and every word of the proved one's lent list is looked at.
+//! Generated files, on which the proved checker (`wethrynda`) and the second checker (`second`)
+//! have to agree: answer, number, place, signers; and every word of the proved one's lent list is
+//! looked at.
 //!
-//! - `random`, `table`, `steps`, `parts`: random numbers, a table of formulas, step words, a file's parts.
-//! - `derivations`, `records`, `exchanges`, `deep`, `largest`: right files, with every rule; `slips`: files that are right by a wrong reading.
+//! - `random_table`, `identity`, `parts`: random formulas, their proofs from themselves, a file's
+//!   parts. The package `builder` has what they are made of.
+//! - `derivations`, `records`, `exchanges`, `deep`, `largest`: right files, with every rule;
+//!   `slips`: what makes them right by a wrong reading.
 //! - `misses`, `raw`, `noise`: near misses and noise.
 //! - `given`: which file a seed and a number make; `fixed`: the fixed set of the tests.
 //! - `compare`, `tally`, `run`: the comparison, the counts, the threads.
@@ -14,15 +17,14 @@ pub mod derivations;
 pub mod exchanges;
 pub mod fixed;
 pub mod given;
+pub mod identity;
 pub mod largest;
 pub mod misses;
 pub mod noise;
 pub mod parts;
-pub mod random;
+pub mod random_table;
 pub mod raw;
 pub mod records;
 pub mod run;
 pub mod slips;
-pub mod steps;
-pub mod table;
 pub mod tally;

@@ -1,7 +1,8 @@
-//! Near misses: right files with one or a few small faults in their parts. Sizes and length fit the parts; `raw.rs` has those that don't.
+//! Near misses: right files with one or a few small faults in their parts. Sizes and length fit the
+//! parts; `raw.rs` has those that don't.
 use crate::parts::{Kind, Parts};
-use crate::random::Random;
-use crate::steps::names;
+use builder::random::Random;
+use builder::steps::{names, part, rule};
 
 /// Most files get one fault; some two or three, so that the order of the tests shows.
 pub fn some_misses(parts: &mut Parts, random: &mut Random) {
@@ -20,7 +21,7 @@ pub fn some_misses(parts: &mut Parts, random: &mut Random) {
 
 /// A formula number that is wrong, or right but another one.
 fn number(parts: &Parts, random: &mut Random) -> u16 {
-    let formulas = parts.heads.len() as u16;
+    let formulas = parts.table.len() as u16;
     match random.below(8) {
         0 => formulas - 1,
         1 => formulas,
@@ -30,17 +31,18 @@ fn number(parts: &Parts, random: &mut Random) -> u16 {
     }
 }
 
-/// A word changed: by one, to any word, or to another of the list.
-fn changed(word: u16, list: &[u16], random: &mut Random) -> u16 {
+/// A word changed: by one, to any word, or to another of those it stands among.
+fn changed(word: u16, random: &mut Random, another: impl Fn(&mut Random) -> u16) -> u16 {
     match random.below(4) {
         0 => word.wrapping_add(1),
         1 => word.wrapping_sub(1),
         2 => random.word(),
-        _ => random.pick(list),
+        _ => another(random),
     }
 }
 
-/// One step word changed; also to another code with the same part, and to the same code with another part.
+/// One step word changed; also to another code with the same part, and to the same code with
+/// another part.
 fn step(parts: &mut Parts, random: &mut Random) {
     if parts.steps.is_empty() {
         return;
@@ -54,17 +56,18 @@ fn step(parts: &mut Parts, random: &mut Random) {
     };
     let word = parts.steps[at];
     parts.steps[at] = match random.below(6) {
-        0 | 1 => random.below(13) as u16 * 4096 + word % 4096,
-        2 if names(word) || random.one_in(4) => word / 4096 * 4096 + number(parts, random) % 4096,
-        3 if !parts.first.is_empty() => (word / 4096 * 4096) | (random.pick(&parts.first) % 4096),
-        _ => changed(word, &parts.steps, random),
+        0 | 1 => random.below(13) as u16 * 4096 + part(word),
+        2 if names(word) || random.one_in(4) => rule(word) + part(number(parts, random)),
+        3 if !parts.first.is_empty() => rule(word) + part(random.pick(&parts.first)),
+        _ => changed(word, random, |random| random.pick(&parts.steps)),
     };
 }
 
 /// A statement changed, dropped, doubled, or one more.
 fn statement(parts: &mut Parts, random: &mut Random) {
     let new = number(parts, random);
-    let list = if parts.kind == Kind::Exchange && random.one_in(2) { &mut parts.second } else { &mut parts.first };
+    let of_second = parts.kind == Kind::Exchange && random.one_in(2);
+    let list = if of_second { &mut parts.second } else { &mut parts.first };
     let at = random.below(list.len() + 1);
     match random.below(4) {
         0 if at < list.len() => {
@@ -87,31 +90,27 @@ fn goal(parts: &mut Parts, random: &mut Random) {
 
 /// An entry changed, repeated, given a bad operand, or exchanged for another.
 fn entry(parts: &mut Parts, random: &mut Random) {
-    let count = parts.heads.len();
+    let table = &mut parts.table;
+    let count = table.len();
     let (at, other) = (random.below(count), random.below(count));
+    let (head, second) = table[at];
+    let (kind, first) = (head / 4096, head % 4096);
     match random.below(8) {
-        0 => parts.heads[at] = changed(parts.heads[at], &parts.heads, random),
-        1 => parts.seconds[at] = changed(parts.seconds[at], &parts.seconds, random),
-        2 => parts.heads[at] = random.below(7) as u16 * 4096 + parts.heads[at] % 4096,
+        0 => table[at].0 = changed(head, random, |random| random.pick(table).0),
+        1 => table[at].1 = changed(second, random, |random| random.pick(table).1),
+        2 => table[at].0 = random.below(7) as u16 * 4096 + first,
         // an operand that is the entry's own number, or the next one
-        3 => parts.seconds[at] = at as u16 + random.below(2) as u16,
-        4 => parts.heads[at] = parts.heads[at] / 4096 * 4096 + (at as u16 + random.below(2) as u16) % 4096,
+        3 => table[at].1 = at as u16 + random.below(2) as u16,
+        4 => table[at].0 = kind * 4096 + (at as u16 + random.below(2) as u16) % 4096,
         // the earlier entry again, in the later one's place
-        5 => {
-            let (earlier, later) = (at.min(other), at.max(other));
-            parts.heads[later] = parts.heads[earlier];
-            parts.seconds[later] = parts.seconds[earlier];
-        }
-        6 => {
-            parts.heads.swap(at, other);
-            parts.seconds.swap(at, other);
-        }
+        5 => table[at.max(other)] = table[at.min(other)],
+        6 => table.swap(at, other),
         _ if count < 4096 => {
-            // an entry repeated at the end; now and then a bad one before or after it: 4 comes before 5
-            parts.heads.push(parts.heads[at]);
-            parts.seconds.push(parts.seconds[at]);
+            // an entry repeated at the end; now and then a bad one before or after it: 4 comes
+            // before 5
+            table.push(table[at]);
             if random.one_in(3) {
-                parts.seconds[other] = random.word();
+                table[other].1 = random.word();
             }
         }
         _ => {}
@@ -132,9 +131,12 @@ fn steps(parts: &mut Parts, random: &mut Random) {
         1 if count < 16384 => parts.steps.insert(at, parts.steps[at]),
         2 => parts.steps.swap(at, other),
         3 => parts.steps.truncate(at.max(1)),
-        4 | 5 if count < 16384 => parts.steps.push(if random.one_in(2) { random.word() } else { parts.steps[at] }),
+        4 | 5 if count < 16384 => {
+            let word = if random.one_in(2) { random.word() } else { parts.steps[at] };
+            parts.steps.push(word);
+        }
         6 => {
-            let formulas = parts.heads.len();
+            let formulas = parts.table.len();
             for word in &mut parts.steps[at..] {
                 *word = random.below(12) as u16 * 4096 + random.below(formulas) as u16;
             }

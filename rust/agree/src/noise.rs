@@ -1,9 +1,10 @@
 //! Noise: files that are nearly nothing, or right up to some part and then anything.
-use crate::parts::{bytes, Kind, Parts};
-use crate::random::Random;
+use crate::parts::{Kind, Parts};
+use crate::random_table::RandomTable;
 use crate::raw::LIMITS;
-use crate::steps::names;
-use crate::table::Table;
+use builder::layout::bytes;
+use builder::random::Random;
+use builder::steps::{names, part};
 
 pub fn noise(random: &mut Random, kind: Kind) -> Vec<u8> {
     match random.below(10) {
@@ -22,7 +23,10 @@ fn any_bytes(random: &mut Random) -> Vec<u8> {
 
 /// Sizes at limits or small, then words in the right number or nearly so.
 fn sizes_in_front(random: &mut Random) -> Vec<u8> {
-    let sizes = [0; 4].map(|_| if random.one_in(5) { random.pick(&LIMITS) } else { random.below(6) as u16 });
+    let sizes = [0; 4].map(|_| match random.one_in(5) {
+        true => random.pick(&LIMITS),
+        false => random.below(6) as u16,
+    });
     let [f, a, b, c] = sizes.map(usize::from);
     let length = if random.one_in(2) { 2 * f + a + b } else { 2 * f + a + b + c };
     // a long file is seldom worth it
@@ -36,13 +40,18 @@ fn sizes_in_front(random: &mut Random) -> Vec<u8> {
     file
 }
 
-/// Entries of any kind with operands that are mostly right; statements and steps that don't matter much.
+/// Entries of any kind with operands that are mostly right; statements and steps that don't matter
+/// much.
 fn table_of_noise(random: &mut Random, kind: Kind) -> Vec<u8> {
     let count = random.between(1, 24);
-    let (mut heads, mut seconds) = (vec![], vec![]);
+    let mut table = vec![];
     for own in 0..count {
-        let operand = |random: &mut Random| if random.one_in(30) { random.word() % 4096 } else { random.below(own + 1) as u16 };
-        let entry_kind = if random.one_in(30) { random.below(16) as u16 } else { random.below(6) as u16 };
+        let operand = |random: &mut Random| match random.one_in(30) {
+            true => random.word() % 4096,
+            false => random.below(own + 1) as u16,
+        };
+        let kinds = if random.one_in(30) { 16 } else { 6 };
+        let entry_kind = random.below(kinds) as u16;
         let (first, second) = match entry_kind {
             0 => (random.name(), 0),
             1 => (0, 0),
@@ -51,38 +60,44 @@ fn table_of_noise(random: &mut Random, kind: Kind) -> Vec<u8> {
         };
         // an operand below the entry is rarer among the first ones: these are atoms
         let leaf = own < 2 || (second as usize >= own && !random.one_in(6));
-        heads.push(if leaf { random.name() } else { entry_kind * 4096 + first });
-        seconds.push(if leaf { u16::from(random.one_in(60)) } else { second });
+        table.push(match leaf {
+            true => (random.name(), u16::from(random.one_in(60))),
+            false => (entry_kind * 4096 + first, second),
+        });
     }
-    let mut table = Table::default();
-    (table.heads, table.seconds) = (heads, seconds);
     any_parts(random, kind, &table)
 }
 
 /// A right table; statements and steps drawn so that the tests of the steps are reached.
 fn steps_of_noise(random: &mut Random, kind: Kind) -> Vec<u8> {
-    let mut table = Table::default();
+    let mut table = RandomTable::default();
     let count = random.between(1, 10);
     table.fill(random, count);
     any_parts(random, kind, &table)
 }
 
-fn any_parts(random: &mut Random, kind: Kind, table: &Table) -> Vec<u8> {
+fn any_parts(random: &mut Random, kind: Kind, table: &[(u16, u16)]) -> Vec<u8> {
     let count = table.len();
-    let number = |random: &mut Random| if random.one_in(60) { (count + random.below(2)) as u16 } else { random.below(count) as u16 };
-    let list = |random: &mut Random| (0..random.below(6)).map(|_| number(random)).collect::<Vec<u16>>();
+    let number = |random: &mut Random| match random.one_in(60) {
+        true => (count + random.below(2)) as u16,
+        false => random.below(count) as u16,
+    };
+    let list =
+        |random: &mut Random| (0..random.below(6)).map(|_| number(random)).collect::<Vec<u16>>();
     let (first, second, goal) = (list(random), list(random), number(random));
     let steps: Vec<u16> = (0..random.between(1, 12))
         .map(|_| {
-            let code = if random.one_in(30) { random.below(16) as u16 } else { random.below(12) as u16 };
-            let named = if first.is_empty() || random.one_in(4) { number(random) } else { random.pick(&first) };
-            let named = if names(code * 4096) || random.one_in(30) { named } else { 0 };
-            code * 4096 + named % 4096
+            let codes = if random.one_in(30) { 16 } else { 12 };
+            let rule = random.below(codes) as u16 * 4096;
+            let any = first.is_empty() || random.one_in(4);
+            let named = if any { number(random) } else { random.pick(&first) };
+            let named = if names(rule) || random.one_in(30) { named } else { 0 };
+            rule + part(named)
         })
         .collect();
     let parts = match kind {
         Kind::Record => Parts::record(table, first, goal, steps),
         Kind::Exchange => Parts::exchange(table, first, second, &[steps]),
     };
-    bytes(&parts.words())
+    parts.bytes()
 }

@@ -1,6 +1,7 @@
 //! Near misses that don't keep to the parts: sizes, length, words and bytes changed as they stand.
-use crate::parts::{bytes, Kind};
-use crate::random::Random;
+use crate::parts::Kind;
+use builder::layout::bytes;
+use builder::random::Random;
 
 /// The words of a right file, with one such fault, as bytes.
 pub fn missed(mut words: Vec<u16>, kind: Kind, random: &mut Random) -> Vec<u8> {
@@ -16,8 +17,8 @@ pub fn missed(mut words: Vec<u16>, kind: Kind, random: &mut Random) -> Vec<u8> {
         }
         6 => words.insert(at, words[at]),
         7 => {
-            let size = random.below(4);
-            words[size] = if random.one_in(2) { words[size].wrapping_add(1) } else { words[size].wrapping_sub(1) };
+            let size = &mut words[random.below(4)];
+            *size = if random.one_in(2) { size.wrapping_add(1) } else { size.wrapping_sub(1) };
         }
         8 => words[random.below(4)] = random.pick(&LIMITS),
         9 => {
@@ -53,7 +54,8 @@ pub fn missed(mut words: Vec<u16>, kind: Kind, random: &mut Random) -> Vec<u8> {
 }
 
 /// The limits of the sizes, and one more and one less.
-pub const LIMITS: [u16; 16] = [0, 1, 2, 255, 256, 257, 4095, 4096, 4097, 16383, 16384, 16385, 32767, 32768, 65534, 65535];
+pub const LIMITS: [u16; 16] =
+    [0, 1, 2, 255, 256, 257, 4095, 4096, 4097, 16383, 16384, 16385, 32767, 32768, 65534, 65535];
 
 /// Sizes that ask for the same length, so that the words are read as other parts.
 fn other_sizes(words: &mut [u16], kind: Kind, random: &mut Random) {

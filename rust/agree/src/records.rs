@@ -1,19 +1,24 @@
 //! Records with a right proof, or with one that follows a slip.
-use crate::derivations::{Grower, Judgment};
+use crate::derivations::{Grower, Judgment, Slip};
+use crate::identity::identity;
 use crate::parts::Parts;
-use crate::random::Random;
-use crate::slips::{self, Slip};
-use crate::steps::*;
-use crate::table::Entry::{False, Implies, Or};
-use crate::table::Table;
+use crate::random_table::RandomTable;
+use crate::slips;
+use builder::random::Random;
+use builder::steps::*;
+use builder::table::Entry::{False, Implies, Or};
 
-/// A small record: a random goal, a grown proof, what it needs as statements, and what nobody needs.
+/// A small record: a random goal, a grown proof, what it needs as statements, and what nobody
+/// needs.
 pub fn small(random: &mut Random, slip: Option<Slip>) -> Parts {
-    let mut table = Table::default();
+    let mut table = RandomTable::default();
     let unused = random.below(4);
     table.fill(random, unused);
     let levels = random.below(4);
-    let goal = if slip.is_some() { slips::goal(random, &mut table, levels) } else { table.formula(random, levels) };
+    let goal = match slip {
+        Some(_) => slips::goal(random, &mut table, levels),
+        None => table.formula(random, levels),
+    };
     let steps = match random.below(8) {
         0 => random.between(30, 120),
         1 => 1,
@@ -29,7 +34,7 @@ pub fn small(random: &mut Random, slip: Option<Slip>) -> Parts {
 
 /// "not not (A or not A)" has no proof without its hypothesis twice.
 pub fn needs_twice(random: &mut Random) -> Parts {
-    let mut table = Table::default();
+    let mut table = RandomTable::default();
     let a = table.formula(random, 1);
     let falsehood = table.number(False);
     let not_a = table.number(Implies(a, falsehood));
@@ -44,7 +49,13 @@ pub fn needs_twice(random: &mut Random) -> Parts {
 }
 
 /// The record with unused and repeated statements, unused entries, and its parts in any order.
-fn dressed(random: &mut Random, mut table: Table, mut statements: Vec<u16>, goal: u16, steps: Vec<u16>) -> Parts {
+fn dressed(
+    random: &mut Random,
+    mut table: RandomTable,
+    mut statements: Vec<u16>,
+    goal: u16,
+    steps: Vec<u16>,
+) -> Parts {
     while random.one_in(3) {
         statements.push(table.formula(random, 1));
     }

@@ -1,4 +1,5 @@
-//! Many files on several threads. Which files, and which disagreement is the first, doesn't depend on the threads.
+//! Many files on several threads. Which files, and which disagreement is the first, doesn't depend
+//! on the threads.
 use crate::compare::{compared, Disagreement};
 use crate::given::Given;
 use crate::tally::Tally;
@@ -12,8 +13,8 @@ pub const STACK: usize = 256 << 20;
 /// How many files a thread takes at a time.
 const BLOCK: u64 = 256;
 
-/// Compares the files numbered from 0 to `files`; gives the tally, or the number and the disagreement of the first file that has one. `progress`
-/// is told now and then how many are done.
+/// Compares the files numbered from 0 to `files`; gives the tally, or the number and the
+/// disagreement of the first file that has one. `progress` is told now and then how many are done.
 pub fn run(
     files: u64,
     threads: usize,
@@ -48,9 +49,11 @@ pub fn run(
     };
     let mut tally = Tally::default();
     thread::scope(|scope| {
-        let start = |_| thread::Builder::new().stack_size(STACK).spawn_scoped(scope, work).expect("a thread starts");
+        let start = |_| thread::Builder::new().stack_size(STACK).spawn_scoped(scope, work);
         let running: Vec<_> = (0..threads).map(start).collect();
-        running.into_iter().for_each(|thread| tally.add(&thread.join().expect("no checker panics")));
+        for thread in running {
+            tally.add(&thread.expect("a thread starts").join().expect("no checker panics"));
+        }
     });
     match first.into_inner().expect("no thread has failed") {
         Some(found) => Err(found),

@@ -1,67 +1,36 @@
-//! Wrong readings of the rules, each followed once in a derivation whose other steps are right: 01, "Errors my classes make", and others. What comes
-//! after the slip is written as if the slip were right.
-use crate::derivations::Grower;
+//! Wrong readings of the rules, each followed once in a derivation whose other steps are right: 01,
+//! "Errors my classes make", and others. What comes after the slip is written as if the slip were
+//! right.
 use crate::derivations::Judgment::{self, Affirms, Truth};
-use crate::random::Random;
-use crate::steps::*;
-use crate::table::Entry::{And, Atom, False, Implies, Or, Says};
-use crate::table::Table;
-
-#[derive(Clone, Copy, Debug, PartialEq, Eq)]
-pub enum Slip {
-    /// "Init on an affirmation; affirm comes first."
-    InitOnAffirmation,
-    /// "Code 11 on a truth, as in C."
-    SaysLeftOnTruth,
-    /// Says left for one principal with another's word.
-    AnothersWord,
-    /// False, said by one, frees everything.
-    FalseSaid,
-    /// "An implies-left whose first premise keeps the affirmation."
-    AffirmationKept,
-    /// "carrying an added one into the second premise"
-    Carried,
-    /// What is said is taken as true.
-    SaidIsTrue,
-    /// Or right, and then the other side.
-    OtherSide,
-    /// The second premise before the first.
-    PremisesSwapped,
-    /// Affirm on a truth.
-    AffirmOnTruth,
-    /// Says right, and then the formula's truth without affirm.
-    AffirmLeftOut,
-    /// A right rule for the formula that is affirmed.
-    RightOnAffirmation,
-    /// Both sides of an or are held.
-    OrAsAnd,
-}
-use Slip::*;
+use crate::derivations::{Grower, Slip};
+use crate::random_table::RandomTable;
+use builder::random::Random;
+use builder::steps::*;
+use builder::table::Entry::{And, Atom, False, Implies, Or, Says};
 
 const SLIPS: [Slip; 13] = [
-    InitOnAffirmation,
-    SaysLeftOnTruth,
-    AnothersWord,
-    FalseSaid,
-    AffirmationKept,
-    Carried,
-    SaidIsTrue,
-    OtherSide,
-    PremisesSwapped,
-    AffirmOnTruth,
-    AffirmLeftOut,
-    RightOnAffirmation,
-    OrAsAnd,
+    init_on_affirmation,
+    says_left_on_truth,
+    anothers_word,
+    false_said,
+    affirmation_kept,
+    carried,
+    said_is_true,
+    other_side,
+    premises_swapped,
+    affirm_on_truth,
+    affirm_left_out,
+    right_on_affirmation,
+    or_as_and,
 ];
 
-impl Slip {
-    pub fn any(random: &mut Random) -> Slip {
-        random.pick(&SLIPS)
-    }
+pub fn any(random: &mut Random) -> Slip {
+    random.pick(&SLIPS)
 }
 
-/// A goal for a derivation with a slip: more often one that leads to an affirmation, where most slips are.
-pub fn goal(random: &mut Random, table: &mut Table, levels: usize) -> u16 {
+/// A goal for a derivation with a slip: more often one that leads to an affirmation, where most
+/// slips are.
+pub fn goal(random: &mut Random, table: &mut RandomTable, levels: usize) -> u16 {
     let formula = table.formula(random, levels);
     if random.one_in(3) {
         return formula;
@@ -69,125 +38,143 @@ pub fn goal(random: &mut Random, table: &mut Table, levels: usize) -> u16 {
     table.number(Says(random.name(), formula))
 }
 
+/// "Init on an affirmation; affirm comes first."
+fn init_on_affirmation(at: &mut Grower, goal: Judgment, _: usize, _: usize) -> bool {
+    let Affirms(_, a) = goal else { return false };
+    let Atom(_) = at.table.entry(a) else { return false };
+    at.ensure(a);
+    at.step(INIT + a);
+    true
+}
+
+/// "Code 11 on a truth, as in C."
+fn says_left_on_truth(at: &mut Grower, goal: Judgment, steps: usize, depth: usize) -> bool {
+    let Truth(_) = goal else { return false };
+    let (principal, a) = (at.random.name(), at.some_formula());
+    at.says_left(principal, a, goal, steps, depth)
+}
+
+/// Says left for one principal with another's word.
+fn anothers_word(at: &mut Grower, goal: Judgment, steps: usize, depth: usize) -> bool {
+    let Affirms(principal, formula) = goal else { return false };
+    let a = if at.random.one_in(2) { formula } else { at.some_formula() };
+    at.says_left(principal ^ 1, a, goal, steps, depth)
+}
+
+/// False, said by one, frees everything.
+fn false_said(at: &mut Grower, _: Judgment, _: usize, _: usize) -> bool {
+    let (other, falsehood) = (at.random.name(), at.table.number(False));
+    let said = at.table.number(Says(other, falsehood));
+    at.ensure(said);
+    if at.random.one_in(2) {
+        at.step(SAYS_LEFT + said);
+        at.step(FALSE_LEFT + falsehood);
+    } else {
+        at.step(FALSE_LEFT + said);
+    }
+    true
+}
+
+/// "An implies-left whose first premise keeps the affirmation."
+fn affirmation_kept(at: &mut Grower, goal: Judgment, steps: usize, depth: usize) -> bool {
+    let Affirms(principal, _) = goal else { return false };
+    let (named, a, b) = at.held_implies();
+    at.step(IMPLIES_LEFT + named);
+    at.grow_short(Affirms(principal, a), depth + 1);
+    at.add(b);
+    at.grow_about(goal, steps - 1, depth + 1)
+}
+
+/// "carrying an added one into the second premise": an or whose first side is the goal's formula,
+/// so that the second premise finds it held.
+fn carried(at: &mut Grower, goal: Judgment, steps: usize, depth: usize) -> bool {
+    let (Truth(a) | Affirms(_, a)) = goal;
+    let b = at.some_formula();
+    let named = at.table.number(Or(a, b));
+    at.ensure(named);
+    at.step(OR_LEFT + named);
+    at.add(a);
+    at.grow_short(goal, depth + 1);
+    at.add(b);
+    at.grow_about(goal, steps - 1, depth + 1)
+}
+
+/// What is said is taken as true.
+fn said_is_true(at: &mut Grower, goal: Judgment, steps: usize, depth: usize) -> bool {
+    let (Truth(a) | Affirms(_, a)) = goal;
+    let said = at.table.number(Says(at.random.name(), a));
+    at.ensure(said);
+    at.add(a);
+    at.grow_about(goal, steps - 1, depth)
+}
+
+/// Or right, and then the other side.
+fn other_side(at: &mut Grower, goal: Judgment, steps: usize, depth: usize) -> bool {
+    let Truth(or) = goal else { return false };
+    let Or(a, b) = at.table.entry(or) else { return false };
+    let (rule, other) =
+        if at.random.one_in(2) { (OR_RIGHT_FIRST, b) } else { (OR_RIGHT_SECOND, a) };
+    at.step(rule);
+    at.grow_about(Truth(other), steps - 1, depth + 1)
+}
+
+/// The second premise before the first, of and right where the goal is an and, else of implies
+/// left.
+fn premises_swapped(at: &mut Grower, goal: Judgment, _: usize, depth: usize) -> bool {
+    if let Truth(formula) = goal {
+        if let And(a, b) = at.table.entry(formula) {
+            at.step(AND_RIGHT);
+            at.grow_short(Truth(b), depth + 1);
+            at.grow_short(Truth(a), depth + 1);
+            return true;
+        }
+    }
+    let (named, a, b) = at.held_implies();
+    let mark = at.added.len();
+    at.step(IMPLIES_LEFT + named);
+    at.add(b);
+    at.grow_short(goal, depth + 1);
+    at.take_back(mark);
+    at.grow_short(Truth(a), depth + 1);
+    true
+}
+
+/// Affirm on a truth.
+fn affirm_on_truth(at: &mut Grower, goal: Judgment, steps: usize, depth: usize) -> bool {
+    let Truth(_) = goal else { return false };
+    at.step(AFFIRM);
+    at.grow_about(goal, steps - 1, depth + 1)
+}
+
+/// Says right, and then the formula's truth without affirm.
+fn affirm_left_out(at: &mut Grower, goal: Judgment, steps: usize, depth: usize) -> bool {
+    let Truth(formula) = goal else { return false };
+    let Says(_, a) = at.table.entry(formula) else { return false };
+    at.step(SAYS_RIGHT);
+    at.grow_about(Truth(a), steps - 1, depth + 1)
+}
+
+/// A right rule for the formula that is affirmed.
+fn right_on_affirmation(at: &mut Grower, goal: Judgment, steps: usize, depth: usize) -> bool {
+    let Affirms(_, a) = goal else { return false };
+    at.right(Truth(a), steps.max(at.least(Truth(a)) + 1), depth)
+}
+
+/// Both sides of an or are held.
+fn or_as_and(at: &mut Grower, goal: Judgment, steps: usize, depth: usize) -> bool {
+    let (Truth(a) | Affirms(_, a)) = goal;
+    let b = at.some_formula();
+    let named = at.table.number(Or(b, a));
+    at.ensure(named);
+    let rule = at.random.pick(&[AND_LEFT, OR_LEFT]);
+    at.step(rule + named);
+    at.add(a);
+    at.add(b);
+    at.grow_about(goal, steps - 1, depth + 1)
+}
+
+/// What the slips are made of. What goes on with the goal ends the slip, which was followed: true.
 impl Grower<'_> {
-    /// Follows the slip here where it fits, mostly; whether it was followed, and so the goal's steps stand.
-    pub fn try_slip(&mut self, goal: Judgment, steps: usize, depth: usize) -> bool {
-        let Some(slip) = self.slip else { return false };
-        if self.random.one_in(4) || steps < 2 {
-            return false;
-        }
-        self.slip = None;
-        let mark = self.added.len();
-        let done = self.follow(slip, goal, steps, depth);
-        self.take_back(mark);
-        if !done {
-            self.slip = Some(slip);
-        }
-        done
-    }
-
-    fn follow(&mut self, slip: Slip, goal: Judgment, steps: usize, depth: usize) -> bool {
-        let above = steps - 1;
-        match (slip, goal) {
-            (InitOnAffirmation, Affirms(_, a)) if matches!(self.table.entry(a), Atom(_)) => {
-                self.ensure(a);
-                self.step(INIT + a);
-            }
-            (SaysLeftOnTruth, Truth(_)) => {
-                let (principal, a) = (self.random.name(), self.some_formula());
-                self.says_left(principal, a, goal, above, depth);
-            }
-            (AnothersWord, Affirms(principal, formula)) => {
-                let other = principal ^ 1;
-                let a = if self.random.one_in(2) { formula } else { self.some_formula() };
-                self.says_left(other, a, goal, above, depth);
-            }
-            (FalseSaid, _) => {
-                let (other, falsehood) = (self.random.name(), self.table.number(False));
-                let said = self.table.number(Says(other, falsehood));
-                self.ensure(said);
-                if self.random.one_in(2) {
-                    self.step(SAYS_LEFT + said);
-                    self.step(FALSE_LEFT + falsehood);
-                } else {
-                    self.step(FALSE_LEFT + said);
-                }
-            }
-            (AffirmationKept, Affirms(principal, _)) => {
-                let Some((named, a, b)) = self.held_implies() else { return false };
-                self.step(IMPLIES_LEFT + named);
-                self.grow_short(Affirms(principal, a), depth + 1);
-                self.add(b);
-                self.grow_about(goal, above, depth + 1);
-            }
-            (Carried, _) => {
-                // an or whose first side is the goal's formula: the second premise finds it held
-                let (Truth(a) | Affirms(_, a)) = goal;
-                let b = self.some_formula();
-                let named = self.table.number(Or(a, b));
-                self.ensure(named);
-                self.step(OR_LEFT + named);
-                self.add(a);
-                self.grow_short(goal, depth + 1);
-                self.add(b);
-                self.grow_about(goal, above, depth + 1);
-            }
-            (SaidIsTrue, _) => {
-                let (Truth(a) | Affirms(_, a)) = goal;
-                let said = self.table.number(Says(self.random.name(), a));
-                self.ensure(said);
-                self.add(a);
-                self.grow_about(goal, above, depth);
-            }
-            (OtherSide, Truth(or)) => {
-                let Or(a, b) = self.table.entry(or) else { return false };
-                let first = self.random.one_in(2);
-                self.step(if first { OR_RIGHT_FIRST } else { OR_RIGHT_SECOND });
-                let other = if first { b } else { a };
-                self.grow_about(Truth(other), above, depth + 1);
-            }
-            (PremisesSwapped, Truth(and)) if matches!(self.table.entry(and), And(..)) => {
-                let And(a, b) = self.table.entry(and) else { return false };
-                self.step(AND_RIGHT);
-                for side in [b, a] {
-                    self.grow_short(Truth(side), depth + 1);
-                }
-            }
-            (PremisesSwapped, _) => {
-                let Some((named, a, b)) = self.held_implies() else { return false };
-                let mark = self.added.len();
-                self.step(IMPLIES_LEFT + named);
-                self.add(b);
-                self.grow_short(goal, depth + 1);
-                self.take_back(mark);
-                self.grow_short(Truth(a), depth + 1);
-            }
-            (AffirmOnTruth, Truth(_)) => {
-                self.step(AFFIRM);
-                self.grow_about(goal, above, depth + 1);
-            }
-            (AffirmLeftOut, Truth(formula)) => {
-                let Says(_, a) = self.table.entry(formula) else { return false };
-                self.step(SAYS_RIGHT);
-                self.grow_about(Truth(a), above, depth + 1);
-            }
-            (RightOnAffirmation, Affirms(_, a)) => return self.right(Truth(a), steps.max(self.least(Truth(a)) + 1), depth),
-            (OrAsAnd, _) => {
-                let (Truth(a) | Affirms(_, a)) = goal;
-                let b = self.some_formula();
-                let named = self.table.number(Or(b, a));
-                self.ensure(named);
-                let rule = self.random.pick(&[AND_LEFT, OR_LEFT]);
-                self.step(rule + named);
-                self.add(a);
-                self.add(b);
-                self.grow_about(goal, above, depth + 1);
-            }
-            _ => return false,
-        }
-        true
-    }
-
     fn ensure(&mut self, formula: u16) {
         if !self.holds(formula) {
             self.state(formula);
@@ -195,9 +182,10 @@ impl Grower<'_> {
     }
 
     /// The goal in so many steps, or in the least number of them if that is more.
-    fn grow_about(&mut self, goal: Judgment, steps: usize, depth: usize) {
+    fn grow_about(&mut self, goal: Judgment, steps: usize, depth: usize) -> bool {
         let least = self.least(goal);
         self.grow(goal, steps.max(least), depth);
+        true
     }
 
     /// The goal in hardly more than the least number of steps.
@@ -211,24 +199,31 @@ impl Grower<'_> {
     }
 
     /// Says left as if it were right here.
-    fn says_left(&mut self, principal: u16, a: u16, goal: Judgment, above: usize, depth: usize) {
+    fn says_left(
+        &mut self,
+        principal: u16,
+        a: u16,
+        goal: Judgment,
+        steps: usize,
+        depth: usize,
+    ) -> bool {
         let named = self.table.number(Says(principal, a));
         self.ensure(named);
         self.step(SAYS_LEFT + named);
         self.add(a);
-        self.grow_about(goal, above, depth + 1);
+        self.grow_about(goal, steps - 1, depth + 1)
     }
 
     /// An implies-formula that is held, and its two sides.
-    fn held_implies(&mut self) -> Option<(u16, u16, u16)> {
+    fn held_implies(&mut self) -> (u16, u16, u16) {
         if let Some(named) = self.some_hypothesis() {
             if let Implies(a, b) = self.table.entry(named) {
-                return Some((named, a, b));
+                return (named, a, b);
             }
         }
         let (a, b) = (self.some_formula(), self.some_formula());
         let named = self.table.number(Implies(a, b));
         self.ensure(named);
-        Some((named, a, b))
+        (named, a, b)
     }
 }

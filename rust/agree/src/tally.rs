@@ -2,7 +2,7 @@
 use crate::compare::Answer;
 use crate::given::{Given, FAMILIES};
 use crate::parts::Kind;
-use crate::steps::RULES;
+use builder::steps::{code, RULES};
 use std::fmt;
 
 #[derive(Clone, Default, PartialEq, Eq, Debug)]
@@ -22,8 +22,8 @@ pub struct Tally {
 impl Tally {
     pub fn count(&mut self, given: &Given, answers: &[(Kind, Answer)]) {
         self.files += 1;
-        let family = FAMILIES.iter().position(|&family| family == given.family).expect("a family of the list");
-        self.families[family] += 1;
+        let family = FAMILIES.iter().position(|&family| family == given.family);
+        self.families[family.expect("a family of the list")] += 1;
         for (kind, answer) in answers {
             match answer {
                 Answer::Granted(_) => self.granted += 1,
@@ -35,7 +35,8 @@ impl Tally {
                 Answer::Broken(_) => {}
             }
             if matches!(answer, Answer::Granted(_) | Answer::Equal) {
-                steps(&given.file, *kind).for_each(|step| self.rules[usize::from(step / 4096)] += 1);
+                let codes = steps(&given.file, *kind).map(code);
+                codes.for_each(|code| self.rules[usize::from(code)] += 1);
             }
         }
     }
@@ -44,7 +45,9 @@ impl Tally {
         self.files += other.files;
         self.granted += other.granted;
         self.equal += other.equal;
-        let pairs = |mine: &mut [u64], theirs: &[u64]| mine.iter_mut().zip(theirs).for_each(|(a, b)| *a += b);
+        let pairs = |mine: &mut [u64], theirs: &[u64]| {
+            mine.iter_mut().zip(theirs).for_each(|(a, b)| *a += b);
+        };
         pairs(&mut self.families, &other.families);
         pairs(&mut self.records, &other.records);
         pairs(&mut self.exchanges, &other.exchanges);
@@ -68,7 +71,10 @@ impl Tally {
             }
         }
         for (code, name) in RULES.iter().enumerate() {
-            expect(self.rules[code], format!("rule {code}, {name}, in a file that is granted or equal"));
+            expect(
+                self.rules[code],
+                format!("rule {code}, {name}, in a file that is granted or equal"),
+            );
         }
         missing
     }
@@ -78,7 +84,8 @@ impl Tally {
 fn steps(file: &[u8], kind: Kind) -> impl Iterator<Item = u16> + '_ {
     let word = |at: usize| u16::from_le_bytes([file[2 * at], file[2 * at + 1]]);
     let count = usize::from(word(if kind == Kind::Record { 2 } else { 3 }));
-    file[file.len() - 2 * count..].chunks_exact(2).map(|pair| u16::from_le_bytes([pair[0], pair[1]]))
+    let words = file[file.len() - 2 * count..].chunks_exact(2);
+    words.map(|pair| u16::from_le_bytes([pair[0], pair[1]]))
 }
 
 impl fmt::Display for Tally {
@@ -90,8 +97,16 @@ impl fmt::Display for Tally {
         writeln!(f, "\n{:<28} {:>12} {:>14}", "answer", "record", "exchange")?;
         writeln!(f, "{:<28} {:>12} {:>14}", "granted, equal", self.granted, self.equal)?;
         for number in 1..=15 {
-            let exchange = if number == 6 || number == 8 { "-".to_string() } else { self.exchanges[number].to_string() };
-            writeln!(f, "{:<28} {:>12} {exchange:>14}", format!("refused {number}"), self.records[number])?;
+            let exchange = match number {
+                6 | 8 => "-".to_string(),
+                _ => self.exchanges[number].to_string(),
+            };
+            writeln!(
+                f,
+                "{:<28} {:>12} {exchange:>14}",
+                format!("refused {number}"),
+                self.records[number]
+            )?;
         }
         writeln!(f, "\n{:<28} {:>12}", "rule, granted and equal", "steps")?;
         for (code, name) in RULES.iter().enumerate() {

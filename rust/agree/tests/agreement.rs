@@ -26,21 +26,32 @@ fn files_made_as_right_are_granted_or_equal() {
             let given = given(SEED, number);
             if given.family == "right" {
                 let (_, answer) = compared(&given).expect("no disagreement").remove(0);
-                let right = matches!(answer, Answer::Granted(_) | Answer::Equal | Answer::Refused { number: 8, .. });
+                let right = matches!(
+                    answer,
+                    Answer::Granted(_) | Answer::Equal | Answer::Refused { number: 8, .. }
+                );
                 assert!(right, "file {number}: {answer:?}");
             }
         }
     };
-    thread::Builder::new().stack_size(STACK).spawn(check).expect("a thread starts").join().expect("all are right");
+    thread::Builder::new()
+        .stack_size(STACK)
+        .spawn(check)
+        .expect("a thread starts")
+        .join()
+        .expect("all are right");
 }
 
 #[test]
 fn the_threads_change_nothing() {
-    let with = |threads| run(5_000, threads, &|number| given(9, number), &|_| {}).expect("no disagreement");
+    let with = |threads| {
+        run(5_000, threads, &|number| given(9, number), &|_| {}).expect("no disagreement")
+    };
     assert_eq!(with(1), with(3));
 }
 
-/// The same seed makes the same files on every machine; after a change of the generators the number here is another.
+/// The same seed makes the same files on every machine; after a change of the generators the number
+/// here is another.
 #[test]
 fn a_seed_makes_the_same_files_everywhere() {
     let mut sum = 0xcbf2_9ce4_8422_2325_u64;
@@ -62,14 +73,20 @@ fn the_largest_files_are_as_large_as_may_be() {
         for number in 0..48 {
             let given = fixed.given(fixed.count() - 96 + number);
             let (kind, answer) = compared(&given).expect("no disagreement").remove(0);
-            assert!(matches!(answer, Answer::Granted(_) | Answer::Equal), "file {number}: {answer:?}");
+            assert!(
+                matches!(answer, Answer::Granted(_) | Answer::Equal),
+                "file {number}: {answer:?}"
+            );
             let longest = if kind == Kind::Record { &mut record } else { &mut exchange };
             *longest = given.file.len().max(*longest);
         }
         assert_eq!([record, exchange], [49_672, 50_184]);
     };
     thread::scope(|scope| {
-        let check = thread::Builder::new().stack_size(STACK).spawn_scoped(scope, check).expect("a thread starts");
+        let check = thread::Builder::new()
+            .stack_size(STACK)
+            .spawn_scoped(scope, check)
+            .expect("a thread starts");
         check.join().expect("all are as large as may be");
     });
 }

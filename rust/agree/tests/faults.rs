@@ -1,4 +1,5 @@
-//! Copies of the second checker with a fault each: the fixed set finds every one of them. `build.rs` makes the copies.
+//! Copies of the second checker with a fault each: the fixed set finds every one of them.
+//! `build.rs` makes the copies.
 use agree::compare::{kinds, proved, Answer};
 use agree::fixed::{Fixed, SEED, SEEDED};
 use agree::given::{given, Given};
@@ -24,8 +25,12 @@ macro_rules! fault {
         Fault {
             name: stringify!($name),
             what: $what,
-            record: |file, room| $name::check_record(file, room).map_err(|refusal| (refusal.number, refusal.place)),
-            exchange: |file| $name::check_exchange(file).map_err(|refusal| (refusal.number, refusal.place)),
+            record: |file, room| {
+                $name::check_record(file, room).map_err(|refusal| (refusal.number, refusal.place))
+            },
+            exchange: |file| {
+                $name::check_exchange(file).map_err(|refusal| (refusal.number, refusal.place))
+            },
         }
     };
 }
@@ -75,7 +80,11 @@ fn find_all(files: u64, make: impl Fn(u64) -> Given) -> Vec<Option<Found>> {
             left.retain(|&fault| {
                 let wrong = FAULTS[fault].answer(&given.file, kind, given.room);
                 if wrong != right {
-                    found[fault] = Some(Found { number, family: given.family, answers: [&right, &wrong].map(in_words) });
+                    found[fault] = Some(Found {
+                        number,
+                        family: given.family,
+                        answers: [&right, &wrong].map(in_words),
+                    });
                 }
                 found[fault].is_none()
             });
@@ -95,23 +104,39 @@ fn the_fixed_set_finds_each_fault() {
     let found = thread::scope(|scope| {
         let in_set = || find_all(fixed.count(), |number| fixed.given(number));
         let in_seeded = || find_all(SEEDED, |number| given(SEED, number));
-        let start = |search| thread::Builder::new().stack_size(STACK).spawn_scoped(scope, search).expect("a thread starts");
-        let searches: [Box<dyn Fn() -> Vec<Option<Found>> + Send>; 2] = [Box::new(in_set), Box::new(in_seeded)];
+        let start = |search| {
+            thread::Builder::new()
+                .stack_size(STACK)
+                .spawn_scoped(scope, search)
+                .expect("a thread starts")
+        };
+        let searches: [Box<dyn Fn() -> Vec<Option<Found>> + Send>; 2] =
+            [Box::new(in_set), Box::new(in_seeded)];
         searches.map(start).map(|search| search.join())
     });
     set_hook(hook);
     let [in_set, in_seeded] = found.map(|search| search.expect("the search ends"));
-    println!("{:<32} {:>8}  {:>8}  {:<10} {:<14} {:<14} the fault", "name", "file", "seeded", "family", "right answer", "its answer");
+    println!(
+        "{:<32} {:>8}  {:>8}  {:<10} {:<14} {:<14} the fault",
+        "name", "file", "seeded", "family", "right answer", "its answer"
+    );
     let mut never = vec![];
     for (fault, both) in FAULTS.iter().zip(in_set.iter().zip(&in_seeded)) {
         let (Some(first), Some(seeded)) = both else {
             never.push(fault.name);
             continue;
         };
-        assert!([first, seeded].iter().all(|found| found.answers[1] != "panic"), "{} is found by a panic", fault.name);
+        assert!(
+            [first, seeded].iter().all(|found| found.answers[1] != "panic"),
+            "{} is found by a panic",
+            fault.name
+        );
         let [right, wrong] = &first.answers;
         let (name, what) = (fault.name, fault.what);
-        println!("{name:<32} {:>8}  {:>8}  {:<10} {right:<14} {wrong:<14} {what}", first.number, seeded.number, first.family);
+        println!(
+            "{name:<32} {:>8}  {:>8}  {:<10} {right:<14} {wrong:<14} {what}",
+            first.number, seeded.number, first.family
+        );
     }
     assert_eq!(never, Vec::<&str>::new(), "no file finds these");
 }

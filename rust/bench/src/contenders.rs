@@ -18,17 +18,17 @@ pub fn proved(file: &File) -> Contender<'_> {
 pub fn plain(file: &File) -> Contender<'_> {
     if file.is_record {
         let mut lent = [0; MOST_SIGNERS];
-        repeat(move || plain_checker::check_record(black_box(&file.bytes), &mut lent))
+        repeat(move || plain::check_record(black_box(&file.bytes), &mut lent))
     } else {
-        repeat(|| plain_checker::check_exchange(black_box(&file.bytes)))
+        repeat(|| plain::check_exchange(black_box(&file.bytes)))
     }
 }
 
 pub fn second(file: &File) -> Contender<'_> {
     if file.is_record {
-        repeat(|| second_checker::check_record(black_box(&file.bytes), MOST_SIGNERS))
+        repeat(|| second::check_record(black_box(&file.bytes), MOST_SIGNERS))
     } else {
-        repeat(|| second_checker::check_exchange(black_box(&file.bytes)))
+        repeat(|| second::check_exchange(black_box(&file.bytes)))
     }
 }
 
@@ -45,19 +45,25 @@ fn repeat<'a, T>(mut call: impl FnMut() -> T + 'a) -> Contender<'a> {
     })
 }
 
-/// Granted with the same signers by all three, or equal for all three; otherwise the benchmark ends here.
+/// Granted with the same signers by all three, or equal for all three; otherwise the benchmark ends
+/// here.
 pub fn assert_answers(name: &str, file: &File) {
     if !file.is_record {
         assert_eq!(wethrynda::check_exchange(&file.bytes), Exchange::Equal, "{name}, proved");
-        assert_eq!(plain_checker::check_exchange(&file.bytes), Ok(()), "{name}, plain");
-        assert_eq!(second_checker::check_exchange(&file.bytes), Ok(()), "{name}, second");
+        assert_eq!(plain::check_exchange(&file.bytes), Ok(()), "{name}, plain");
+        assert_eq!(second::check_exchange(&file.bytes), Ok(()), "{name}, second");
         return;
     }
     let [mut proved, mut plain] = [[0; MOST_SIGNERS]; 2];
-    let signers = second_checker::check_record(&file.bytes, MOST_SIGNERS).unwrap_or_else(|refusal| panic!("{name}, second: {refusal:?}"));
+    let signers = second::check_record(&file.bytes, MOST_SIGNERS)
+        .unwrap_or_else(|refusal| panic!("{name}, second: {refusal:?}"));
     let count = signers.len();
-    assert_eq!(wethrynda::check_record(&file.bytes, &mut proved), Verdict::Granted(count), "{name}, proved");
-    assert_eq!(plain_checker::check_record(&file.bytes, &mut plain), Ok(count), "{name}, plain");
+    assert_eq!(
+        wethrynda::check_record(&file.bytes, &mut proved),
+        Verdict::Granted(count),
+        "{name}, proved"
+    );
+    assert_eq!(plain::check_record(&file.bytes, &mut plain), Ok(count), "{name}, plain");
     for list in [&mut proved, &mut plain] {
         list[..count].sort();
         assert!(list[..count].iter().eq(&signers), "{name}, signers");

@@ -1,5 +1,6 @@
-//! The benchmark: `cargo run --release --bin bench` prints the tables of docs/PERFORMANCE.md. All times are taken in one run of one process, and what
-//! counts are the ratios. It is no test: it stops where an answer is wrong, and never for a time.
+//! The benchmark: `cargo run --release --bin bench` prints the tables of docs/PERFORMANCE.md. All
+//! times are taken in one run of one process, and what counts are the ratios. It is no test: it
+//! stops where an answer is wrong, and never for a time.
 #![forbid(unsafe_code)]
 mod contenders;
 mod files;
@@ -27,7 +28,8 @@ fn figures(number: f64) -> String {
 /// A whole number with commas.
 fn whole(number: usize) -> String {
     let digits = number.to_string();
-    let parts: Vec<&str> = digits.as_bytes().rchunks(3).rev().map(|part| std::str::from_utf8(part).expect("digits")).collect();
+    let parts = digits.as_bytes().rchunks(3).rev();
+    let parts: Vec<_> = parts.map(|part| std::str::from_utf8(part).expect("digits")).collect();
     parts.join(",")
 }
 
@@ -35,14 +37,16 @@ fn speed(row: &Row) -> String {
     let file = &row.full;
     let times = measure(vec![proved(file), plain(file), second(file), byte_sum(file)], ROW);
     let ratios = [times[0] / times[1], times[2] / times[0], times[0] / times[3]].map(figures);
-    format!("| {} | {} | {} | {} |", row.name, whole(file.bytes.len()), whole(times[0] as usize), ratios.join(" | "))
+    let [bytes, time] = [file.bytes.len(), times[0] as usize].map(whole);
+    format!("| {} | {bytes} | {time} | {} |", row.name, ratios.join(" | "))
 }
 
 fn growth(row: &Row) -> Option<String> {
     let (full, half) = (&row.full, row.half.as_ref()?);
     let times = measure(vec![proved(full), proved(half), plain(full), plain(half)], ROW);
     let bytes = full.bytes.len() as f64 / half.bytes.len() as f64;
-    Some(format!("| {} | {bytes:.2} | {:.2} | {:.2} |", row.name, times[0] / times[1], times[2] / times[3]))
+    let [proved, plain] = [times[0] / times[1], times[2] / times[3]];
+    Some(format!("| {} | {bytes:.2} | {proved:.2} | {plain:.2} |", row.name))
 }
 
 /// Prints a line for each row that has one; on a terminal a count shows which is being measured.
@@ -63,9 +67,12 @@ fn print_lines(rows: &[Row], line: impl Fn(&Row) -> Option<String>) {
 fn main() {
     let rows = rows();
     for row in &rows {
-        [Some(&row.full), row.half.as_ref()].into_iter().flatten().for_each(|file| assert_answers(row.name, file));
+        let files = std::iter::once(&row.full).chain(&row.half);
+        files.for_each(|file| assert_answers(row.name, file));
     }
-    println!("| file | bytes | proved, ns | proved / plain | second / proved | proved / sum of bytes |");
+    println!(
+        "| file | bytes | proved, ns | proved / plain | second / proved | proved / sum of bytes |"
+    );
     println!("|---|---:|---:|---:|---:|---:|");
     print_lines(&rows, |row| Some(speed(row)));
     println!("\nFull size over half size; a time that grows as the bytes do is linear:\n");

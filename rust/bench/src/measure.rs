@@ -1,5 +1,5 @@
-//! Times, measured side by side: the contenders take turns in short batches over many rounds, so that whatever else the machine does falls on all of
-//! them, and the shortest time of each counts.
+//! Times, measured side by side: the contenders take turns in short batches over many rounds, so
+//! that whatever else the machine does falls on all of them, and the shortest time of each counts.
 
 use std::time::{Duration, Instant};
 

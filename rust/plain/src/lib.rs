@@ -1,5 +1,6 @@
-//! A plain fast checker of release records and exchange files, as one writes it for speed in safe Rust: words are read where they stand, a
-//! hypothesis is a mark at its formula's number, and little more memory is cleared than the file's sizes ask for. It makes all of 01's tests in 01's
+//! A plain fast checker of release records and exchange files, as one writes it for speed in safe
+//! Rust: words are read where they stand, a hypothesis is a mark at its formula's number, and
+//! little more memory is cleared than the file's sizes ask for. It makes all of 01's tests in 01's
 //! order and keeps nothing between calls. The proved checker is measured against it.
 #![forbid(unsafe_code)]
 mod limits;
@@ -32,10 +33,16 @@ fn sizes(file: &[u8]) -> Result<([usize; 4], Words<'_>), Refusal> {
     Ok(([0, 1, 2, 3].map(|i| sizes.at(i) as usize), rest))
 }
 
-/// Checks a record. Granted, the signers stand at the start of the lent list, and their count is given; refused, the list is as it was.
+/// Checks a record. Granted, the signers stand at the start of the lent list, and their count is
+/// given; refused, the list is as it was.
 pub fn check_record(file: &[u8], signers: &mut [u16]) -> Result<usize, Refusal> {
     let ([formulas, count, steps, goal], rest) = sizes(file)?;
-    if formulas == 0 || formulas > MOST_FORMULAS || count > MOST_STATEMENTS || steps == 0 || steps > MOST_STEPS {
+    if formulas == 0
+        || formulas > MOST_FORMULAS
+        || count > MOST_STATEMENTS
+        || steps == 0
+        || steps > MOST_STEPS
+    {
         return refuse(2, 0);
     }
     if file.len() != 2 * (4 + 2 * formulas + count + steps) {
@@ -64,7 +71,12 @@ pub fn check_record(file: &[u8], signers: &mut [u16]) -> Result<usize, Refusal> 
 /// Checks an exchange file; `Ok` means equal.
 pub fn check_exchange(file: &[u8]) -> Result<(), Refusal> {
     let ([formulas, count, other, steps], rest) = sizes(file)?;
-    if formulas == 0 || formulas > MOST_FORMULAS || count > MOST_STATEMENTS || other > MOST_STATEMENTS || steps > MOST_STEPS {
+    if formulas == 0
+        || formulas > MOST_FORMULAS
+        || count > MOST_STATEMENTS
+        || other > MOST_STATEMENTS
+        || steps > MOST_STEPS
+    {
         return refuse(2, 0);
     }
     if file.len() != 2 * (4 + 2 * formulas + count + other + steps) {

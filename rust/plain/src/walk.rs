@@ -1,5 +1,6 @@
-//! Tests 9 to 15: the walk through the steps, without recursion. What a premise adds is marked at its number; what is still to be done stands on
-//! one stack: second premises to be proved, and marks to be taken back before them.
+//! Tests 9 to 15: the walk through the steps, without recursion. What a premise adds is marked at
+//! its number; what is still to be done stands on one stack: second premises to be proved, and
+//! marks to be taken back before them.
 
 use super::limits::{MOST_DEPTH, MOST_FORMULAS};
 use super::words::Words;
@@ -52,7 +53,12 @@ pub fn with_marks<T>(formulas: usize, run: impl FnOnce(&mut [bool]) -> T) -> T {
 }
 
 impl<'a> Walk<'a> {
-    pub fn new(heads: Words<'a>, seconds: Words<'a>, steps: Words<'a>, held: &'a mut [bool]) -> Self {
+    pub fn new(
+        heads: Words<'a>,
+        seconds: Words<'a>,
+        steps: Words<'a>,
+        held: &'a mut [bool],
+    ) -> Self {
         Walk { heads, seconds, steps, next: 0, held, due: Vec::new() }
     }
 
@@ -90,7 +96,8 @@ impl<'a> Walk<'a> {
         }
     }
 
-    /// Tests 10 to 14 for one step: the goal of its first premise, none where it has no premise, or a refusal's number.
+    /// Tests 10 to 14 for one step: the goal of its first premise, none where it has no premise, or
+    /// a refusal's number.
     #[inline(always)]
     fn step(&mut self, word: u16, goal: Goal, depth: u16) -> Result<Option<Goal>, u8> {
         if depth > MOST_DEPTH {
@@ -155,7 +162,8 @@ impl<'a> Walk<'a> {
         Ok(Some(premise))
     }
 
-    /// The operands of the goal, for a rule that names nothing and needs a truth of this kind: 11, then 13.
+    /// The operands of the goal, for a rule that names nothing and needs a truth of this kind: 11,
+    /// then 13.
     #[inline(always)]
     fn right(&self, n: u16, goal: Goal, kind: u16) -> Result<(u16, u16), u8> {
         if n != 0 {
@@ -194,7 +202,8 @@ impl<'a> Walk<'a> {
         }
     }
 
-    /// After a closed premise: takes back what it added, down to the last second premise that is still open.
+    /// After a closed premise: takes back what it added, down to the last second premise that is
+    /// still open.
     #[inline(always)]
     fn resume(&mut self) -> Option<(Goal, u16)> {
         loop {

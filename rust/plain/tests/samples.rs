@@ -1,30 +1,19 @@
-//! The samples of document 01, every sample of the repository with the line that is stored for it, and a table made for collisions.
-use plain_checker::{check_exchange, check_record, Refusal};
+//! The samples of document 01, every sample of the repository with the line that is stored for it,
+//! and a table made for collisions.
+use builder::layout::{bytes, exchange, record};
+use builder::samples::T;
+use plain::{check_exchange, check_record, Refusal};
 use std::fs;
 use std::path::Path;
 
-fn file_of(sizes: [usize; 4], table: &[(u16, u16)], rest: &[&[u16]]) -> Vec<u8> {
-    let heads = table.iter().map(|entry| entry.0);
-    let seconds = table.iter().map(|entry| entry.1);
-    let words = sizes.map(|size| size as u16).into_iter().chain(heads).chain(seconds).chain(rest.concat());
-    words.flat_map(u16::to_le_bytes).collect()
-}
-
-fn record(table: &[(u16, u16)], statements: &[u16], goal: u16, steps: &[u16]) -> Vec<u8> {
-    file_of([table.len(), statements.len(), steps.len(), goal as usize], table, &[statements, steps])
-}
-
-fn exchange(table: &[(u16, u16)], first: &[u16], second: &[u16], steps: &[u16]) -> Vec<u8> {
-    file_of([table.len(), first.len(), second.len(), steps.len()], table, &[first, second, steps])
-}
-
-/// The line that the record program would print, with a list of so many words; the words after the signers are as they were.
+/// The line that the record program would print, with a list of so many words; the words after the
+/// signers are as they were.
 fn record_line(file: &[u8], room: usize) -> String {
     let mut list = vec![60_000; room];
     let (line, count) = match check_record(file, &mut list) {
         Ok(count) => {
-            let signers: Vec<String> = list[..count].iter().map(|signer| format!(" {signer}")).collect();
-            (format!("granted {count}{}", signers.concat()), count)
+            let signers = list[..count].iter().map(|signer| format!(" {signer}"));
+            (format!("granted {count}{}", signers.collect::<String>()), count)
         }
         Err(Refusal { number, place }) => (format!("refused {number} place {place}"), 0),
     };
@@ -39,10 +28,9 @@ fn exchange_line(file: &[u8]) -> String {
     }
 }
 
-const T: [(u16, u16); 3] = [(0, 0), (20487, 0), (20488, 0)];
-
 #[test]
 fn records_of_document_01() {
+    let deep = |times: usize| [&[40960], &vec![45057; times][..], &[4096, 0]].concat();
     let rows = [
         ("A", record(&T[..2], &[1], 1, &[40960, 45057, 4096, 0]), "granted 1 7"),
         ("B", record(&T, &[0], 1, &[40960, 4096, 0]), "granted 0"),
@@ -57,40 +45,43 @@ fn records_of_document_01() {
         ("M", record(&[(0, 0), (0, 0)], &[0], 0, &[0]), "refused 5 place 1"),
         ("N", record(&[(20487, 0), (0, 0)], &[1], 1, &[1]), "refused 4 place 0"),
         ("O", record(&[(0, 0), (1, 0)], &[1], 0, &[1]), "refused 13 place 0"),
-        ("depth 512", record(&T, &[1], 1, &[&[40960], &vec![45057; 509][..], &[4096, 0]].concat()), "granted 1 7"),
-        ("depth 513", record(&T, &[1], 1, &[&[40960], &vec![45057; 510][..], &[4096, 0]].concat()), "refused 10 place 512"),
+        ("depth 512", record(&T, &[1], 1, &deep(509)), "granted 1 7"),
+        ("depth 513", record(&T, &[1], 1, &deep(510)), "refused 10 place 512"),
     ];
-    for (name, file, line) in rows {
-        assert_eq!(record_line(&file, 256), line, "{name}");
+    for (name, words, line) in rows {
+        assert_eq!(record_line(&bytes(&words), 256), line, "{name}");
     }
-    let signed = record(&T, &[1, 2], 0, &[49152]);
+    let signed = bytes(&record(&T, &[1, 2], 0, &[49152]));
     assert_eq!(record_line(&signed, 1), "refused 8 place 0");
     assert_eq!(record_line(&signed, 2), "refused 11 place 0");
 }
 
 #[test]
 fn exchanges_of_document_01() {
+    let both = [(0, 0), (1, 0), (12288, 1)];
     let rows = [
-        ("K", exchange(&[(0, 0), (1, 0), (12288, 1)], &[2], &[0, 1], &[24578, 0, 24578, 1, 20480, 0, 1]), "equal"),
+        ("K", exchange(&both, &[2], &[0, 1], &[24578, 0, 24578, 1, 20480, 0, 1]), "equal"),
         ("L", exchange(&[(0, 0)], &[], &[0], &[0]), "refused 12 place 0"),
         ("M", exchange(&[(0, 0), (0, 0)], &[0], &[0], &[0, 0]), "refused 5 place 1"),
         ("N", exchange(&[(20487, 0), (0, 0)], &[1], &[1], &[1, 1]), "refused 4 place 0"),
         ("two empty lists", exchange(&[(0, 0)], &[], &[], &[]), "equal"),
         ("7 in the second list", exchange(&T, &[0, 1], &[2, 3], &[]), "refused 7 place 3"),
     ];
-    for (name, file, line) in rows {
-        assert_eq!(exchange_line(&file), line, "{name}");
+    for (name, words, line) in rows {
+        assert_eq!(exchange_line(&bytes(&words)), line, "{name}");
     }
 }
 
 #[test]
 fn every_sample_of_the_repository() {
-    let top = Path::new(env!("CARGO_MANIFEST_DIR")).ancestors().nth(2).expect("the package stands in the repository");
+    let package = Path::new(env!("CARGO_MANIFEST_DIR"));
+    let top = package.ancestors().nth(2).expect("the package stands in the repository's rust/");
     let lines = fs::read_to_string(top.join("crates/samples/stdout")).expect("the samples' lines");
     for line in lines.lines() {
         let (name, answer) = line.split_once(' ').expect(line);
         let file = fs::read(top.join("samples").join(name)).expect(name);
-        let found = if name.ends_with(".record") { record_line(&file, 256) } else { exchange_line(&file) };
+        let is_record = name.ends_with(".record");
+        let found = if is_record { record_line(&file, 256) } else { exchange_line(&file) };
         // the order of signers is free
         let sorted = |line: &str| {
             let mut words: Vec<String> = line.split(' ').map(String::from).collect();
@@ -109,16 +100,22 @@ fn first_repeated(table: &[(u16, u16)]) -> Option<usize> {
 #[test]
 fn a_table_made_for_collisions() {
     // entries whose slots are the same few of the set, however many slots it has
-    let slot = |head: u16, second: u16| (((second as u64) << 16 | head as u64).wrapping_mul(0x9e37_79b9_7f4a_7c15)) >> 54;
+    let slot = |&(head, second): &(u16, u16)| {
+        let entry = u64::from(second) << 16 | u64::from(head);
+        entry.wrapping_mul(0x9e37_79b9_7f4a_7c15) >> 54
+    };
     let mut table: Vec<(u16, u16)> = (0..300).map(|atom| (atom, 0)).collect();
-    let says = (0..300).flat_map(|second| (0..4096).map(move |principal| (20480 + principal, second)));
-    table.extend(says.filter(|&(head, second)| slot(head, second) == 5).take(1100));
+    let principals = 20480..20480 + 4096;
+    let says = (0..300).flat_map(|second| principals.clone().map(move |head| (head, second)));
+    table.extend(says.filter(|entry| slot(entry) == 5).take(1100));
     assert_eq!(table.len(), 1400);
-    let answer = |table: &[(u16, u16)]| record_line(&record(table, &[0], 0, &[0]), 0);
+    let answer = |table: &[(u16, u16)]| record_line(&bytes(&record(table, &[0], 0, &[0])), 0);
     assert_eq!(answer(&table), "granted 0");
-    for repeats in [vec![(1390, 1380)], vec![(1350, 7), (1300, 1299)], vec![(900, 600), (1399, 0)]] {
+    for repeats in [vec![(1390, 1380)], vec![(1350, 7), (1300, 1299)], vec![(900, 600), (1399, 0)]]
+    {
         let mut table = table.clone();
         repeats.iter().for_each(|&(later, earlier)| table[later] = table[earlier]);
-        assert_eq!(answer(&table), format!("refused 5 place {}", first_repeated(&table).expect("a repeat")));
+        let place = first_repeated(&table).expect("a repeat");
+        assert_eq!(answer(&table), format!("refused 5 place {place}"));
     }
 }

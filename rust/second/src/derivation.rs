@@ -1,4 +1,5 @@
-//! "The steps are the derivation from the goal upward: each step is followed by all of its first premise, then its second."
+//! "The steps are the derivation from the goal upward: each step is followed by all of its first
+//! premise, then its second."
 
 use super::figure1::premises;
 use super::formula::{Formula, Tree};
@@ -17,13 +18,20 @@ pub struct Steps<'a> {
 }
 
 impl<'a> Steps<'a> {
-    /// Checks a whole proof of a formula's truth that begins at word `at`: "the first step has depth 1". Gives the place after its last word.
-    pub fn proof(&self, hypotheses: &Hypotheses, formula: &'a Formula, at: usize) -> Result<usize, Refusal> {
+    /// Checks a whole proof of a formula's truth that begins at word `at`: "the first step has
+    /// depth 1". Gives the place after its last word.
+    pub fn proof(
+        &self,
+        hypotheses: &Hypotheses,
+        formula: &'a Formula,
+        at: usize,
+    ) -> Result<usize, Refusal> {
         let (hypotheses, goal) = (hypotheses.clone(), Judgment::True(formula));
         self.derivation(&Sequent { hypotheses, goal }, 1, at)
     }
 
-    /// Tests 9 to 14 in this order at the step, then the derivations of its premises, one deeper each. Gives the place after the last word used.
+    /// Tests 9 to 14 in this order at the step, then the derivations of its premises, one deeper
+    /// each. Gives the place after the last word used.
     fn derivation(&self, sequent: &Sequent<'a>, depth: usize, at: usize) -> Result<usize, Refusal> {
         let refusal = |number: u8| Refusal { number, place: at };
         // Test 9: the steps end while this derivation is due.
@@ -49,7 +57,8 @@ impl<'a> Steps<'a> {
         Ok(next)
     }
 
-    /// Test 15: everything due is proved before word `at`; "words remain (place: the first of them)".
+    /// Test 15: everything due is proved before word `at`; "words remain (place: the first of
+    /// them)".
     pub fn end(&self, at: usize) -> Result<(), Refusal> {
         refuse_if(at < self.words.len(), 15, at)
     }

@@ -11,7 +11,10 @@ pub fn check_exchange(file: &[u8]) -> Result<(), Refusal> {
     // Test 1.
     let [f, s1, s2, n] = sizes(file)?.map(usize::from);
     // Test 2: "here N may be 0 to 16,384 and each list 0 to 256".
-    let in_range = FORMULAS.contains(&f) && STATEMENTS.contains(&s1) && STATEMENTS.contains(&s2) && n <= MOST_STEPS;
+    let in_range = FORMULAS.contains(&f)
+        && STATEMENTS.contains(&s1)
+        && STATEMENTS.contains(&s2)
+        && n <= MOST_STEPS;
     refuse_if(!in_range, 2, 0)?;
     // Test 3. The two lists are read as one at first.
     let [heads, seconds, both, words] = lists(file, [f, f, s1 + s2, n])?;
@@ -20,8 +23,9 @@ pub fn check_exchange(file: &[u8]) -> Result<(), Refusal> {
     // Test 7: "Places for 7 run through both lists."
     let both = table.statements(&both)?;
     let (first, second) = both.split_at(s1);
-    // Tests 9 to 14: "a proof of each statement of the second list from the first, in order, then of each of the first from the second,
-    // one for every position"; "each proof begins at the word after the last one".
+    // Tests 9 to 14: "a proof of each statement of the second list from the first, in order, then
+    // of each of the first from the second, one for every position"; "each proof begins at the word
+    // after the last one".
     let steps = Steps { table: &table, words: &words };
     let mut at = 0;
     for (from, proved) in [(first, second), (second, first)] {

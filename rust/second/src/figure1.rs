@@ -1,4 +1,5 @@
-//! The rules: Figure 1 of 003 without the quantifiers, and Gentzen's rules for and and or, read from the conclusion upward.
+//! The rules: Figure 1 of 003 without the quantifiers, and Gentzen's rules for and and or, read
+//! from the conclusion upward.
 
 use super::formula::Formula;
 use super::formula::Formula::{And, Atom, False, Implies, Or, Says};
@@ -6,10 +7,15 @@ use super::sequent::Judgment::{Affirms, True};
 use super::sequent::Sequent;
 use super::step::Rule;
 
-/// The premises, in order, of a rule whose conclusion is `below` and whose named hypothesis is `named`: one arm for each row of 01's table.
-/// "Principal propositions of left rules implicitly remain available in all premises": nothing is ever taken out of the hypotheses.
-/// Where the rule doesn't fit, the refusal's number, 13 or 14.
-pub fn premises<'a>(rule: Rule, below: &Sequent<'a>, named: Option<&'a Formula>) -> Result<Vec<Sequent<'a>>, u8> {
+/// The premises, in order, of a rule whose conclusion is `below` and whose named hypothesis is
+/// `named`: one arm for each row of 01's table. "Principal propositions of left rules implicitly
+/// remain available in all premises": nothing is ever taken out of the hypotheses. Where the rule
+/// doesn't fit, the refusal's number, 13 or 14.
+pub fn premises<'a>(
+    rule: Rule,
+    below: &Sequent<'a>,
+    named: Option<&'a Formula>,
+) -> Result<Vec<Sequent<'a>>, u8> {
     match (rule, below.goal, named) {
         // INIT: Γ, P true ⟹ P true, for an atom P.
         (Rule::Init, True(Atom(p)), Some(Atom(q))) if p == q => Ok(vec![]),
@@ -34,7 +40,9 @@ pub fn premises<'a>(rule: Rule, below: &Sequent<'a>, named: Option<&'a Formula>)
         // saysR: K says A, from K affirms A.
         (Rule::SaysRight, True(Says(k, a)), None) => Ok(vec![below.to(Affirms(*k, a))]),
         // saysL: K affirms C, naming K says A with the same K, from the same goal with A added.
-        (Rule::SaysLeft, Affirms(k, _), Some(Says(same, a))) if k == *same => Ok(vec![below.with(a)]),
+        (Rule::SaysLeft, Affirms(k, _), Some(Says(same, a))) if k == *same => {
+            Ok(vec![below.with(a)])
+        }
         // Test 14: code 11 names a says-formula of K and the goal isn't an affirmation by K.
         (Rule::SaysLeft, _, Some(Says(..))) => Err(14),
         // Test 13: not the goal or not the named formula that the rule needs.

@@ -22,9 +22,10 @@ pub enum Formula {
     Says(Principal, Tree),
 }
 
-/// A shared formula and the height of its tree; it may have far too many nodes to walk. `==` is equality of trees: it compares the heights,
-/// which tells most unlike trees apart at once, then the pointers (`Rc` of an `Eq` type does), then the formulas. In a table that passed
-/// test 5 unlike entries are unlike trees, so this goes down one path at most.
+/// A shared formula and the height of its tree; it may have far too many nodes to walk. `==` is
+/// equality of trees: it compares the heights, which tells most unlike trees apart at once, then
+/// the pointers (`Rc` of an `Eq` type does), then the formulas. In a table that passed test 5
+/// unlike entries are unlike trees, so this goes down one path at most.
 #[derive(Clone, PartialEq, Eq)]
 pub struct Tree {
     height: usize,
@@ -35,7 +36,9 @@ impl Tree {
     pub fn new(formula: Formula) -> Tree {
         let height = match &formula {
             Formula::Atom(_) | Formula::False => 0,
-            Formula::Implies(a, b) | Formula::And(a, b) | Formula::Or(a, b) => 1 + a.height.max(b.height),
+            Formula::Implies(a, b) | Formula::And(a, b) | Formula::Or(a, b) => {
+                1 + a.height.max(b.height)
+            }
             Formula::Says(_, a) => 1 + a.height,
         };
         Tree { height, formula: Rc::new(formula) }

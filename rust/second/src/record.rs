@@ -14,7 +14,8 @@ pub fn check_record(file: &[u8], room: usize) -> Result<BTreeSet<u16>, Refusal> 
     let [f, s, n, goal] = sizes(file)?;
     let [f, s, n] = [f, s, n].map(usize::from);
     // Test 2.
-    let in_range = FORMULAS.contains(&f) && STATEMENTS.contains(&s) && (1..=MOST_STEPS).contains(&n);
+    let in_range =
+        FORMULAS.contains(&f) && STATEMENTS.contains(&s) && (1..=MOST_STEPS).contains(&n);
     refuse_if(!in_range, 2, 0)?;
     // Test 3.
     let [heads, seconds, statements, words] = lists(file, [f, f, s, n])?;

@@ -7,7 +7,8 @@ pub struct Refusal {
     pub place: usize,
 }
 
-/// One test of 01's list: passes when `fault` is false, else refuses with the test's number and the place.
+/// One test of 01's list: passes when `fault` is false, else refuses with the test's number and the
+/// place.
 pub fn refuse_if(fault: bool, number: u8, place: usize) -> Result<(), Refusal> {
     if fault {
         Err(Refusal { number, place })

@@ -3,14 +3,16 @@
 use super::formula::{Formula, Principal, Tree};
 use std::rc::Rc;
 
-/// "A goal is a truth of one formula or an affirmation of one formula by one principal": the γ of Figure 1.
+/// "A goal is a truth of one formula or an affirmation of one formula by one principal": the γ of
+/// Figure 1.
 #[derive(Clone, Copy)]
 pub enum Judgment<'a> {
     True(&'a Formula),
     Affirms(Principal, &'a Formula),
 }
 
-/// "Hypotheses are truths and form a set": a list of unlike trees, shared with the sets it was made from.
+/// "Hypotheses are truths and form a set": a list of unlike trees, shared with the sets it was made
+/// from.
 #[derive(Clone)]
 pub struct Hypotheses(Option<Rc<Node>>);
 

@@ -11,7 +11,7 @@ impl Table {
     /// Tests 4 and 5 in turn, each over the whole table; then the trees.
     pub fn read(heads: &[u16], seconds: &[u16]) -> Result<Table, Refusal> {
         let entries: Vec<(u16, u16)> = heads.iter().copied().zip(seconds.iter().copied()).collect();
-        refuse_at(entries.iter().enumerate().position(|(own, &entry)| !well_formed(own, entry)), 4)?;
+        refuse_at((0..entries.len()).find(|&own| !well_formed(own, entries[own])), 4)?;
         let mut earlier = HashSet::new();
         refuse_at(entries.iter().position(|&entry| !earlier.insert(entry)), 5)?;
 
@@ -42,7 +42,8 @@ impl Table {
         self.0.get(usize::from(number))
     }
 
-    /// The trees of a list of numbers. Test 7: "A statement's number is F or more (place: the first such position)."
+    /// The trees of a list of numbers. Test 7: "A statement's number is F or more (place: the first
+    /// such position)."
     pub fn statements(&self, numbers: &[u16]) -> Result<Vec<Tree>, Refusal> {
         refuse_at(numbers.iter().position(|&number| self.get(number).is_none()), 7)?;
         Ok(numbers.iter().filter_map(|&number| self.get(number).cloned()).collect())

@@ -1,6 +1,6 @@
 //! The samples of 01, the errors that classes make, and the edges of each test.
 
-use second_checker::{check_exchange, check_record, Refusal};
+use second::{check_exchange, check_record, Refusal};
 use std::collections::BTreeSet;
 
 type Table<'a> = &'a [(u16, u16)];
@@ -40,7 +40,12 @@ fn exchange_file(table: Table, first: &[u16], second: &[u16], steps: &[u16]) -> 
     file([table.len(), first.len(), second.len(), steps.len()], table, &[first, second, steps])
 }
 
-fn record(table: Table, statements: &[u16], goal: u16, steps: &[u16]) -> Result<BTreeSet<u16>, Refusal> {
+fn record(
+    table: Table,
+    statements: &[u16],
+    goal: u16,
+    steps: &[u16],
+) -> Result<BTreeSet<u16>, Refusal> {
     check_record(&record_file(table, statements, goal, steps), 256)
 }
 
@@ -122,7 +127,10 @@ fn proofs_of_an_exchange() {
 fn sizes_and_lengths() {
     let good = record_file(T, &[0], 0, &[0]);
     let equal = exchange_file(T, &[0], &[0], &[0, 0]);
-    for (file, check) in [(good, (|file| check_record(file, 0).map(|_| ())) as fn(&[u8]) -> _), (equal, check_exchange as fn(&[u8]) -> _)] {
+    for (file, check) in [
+        (good, (|file| check_record(file, 0).map(|_| ())) as fn(&[u8]) -> _),
+        (equal, check_exchange as fn(&[u8]) -> _),
+    ] {
         assert_eq!(check(&file), Ok(()));
         for length in 0..file.len() {
             assert_eq!(check(&file[..length]), refused(if length < 8 { 1 } else { 3 }, 0));
@@ -133,14 +141,25 @@ fn sizes_and_lengths() {
     }
     // Test 2 comes before 3: the sizes alone, nine bytes.
     let sizes = |sizes: [u16; 4]| [bytes(&[&sizes]), vec![0]].concat();
-    for (number, [f, s, n]) in
-        [(2, [0, 0, 1]), (2, [4097, 0, 1]), (2, [1, 257, 1]), (2, [1, 0, 0]), (2, [1, 0, 16385]), (3, [4096, 256, 16384]), (3, [1, 0, 1])]
-    {
+    for (number, [f, s, n]) in [
+        (2, [0, 0, 1]),
+        (2, [4097, 0, 1]),
+        (2, [1, 257, 1]),
+        (2, [1, 0, 0]),
+        (2, [1, 0, 16385]),
+        (3, [4096, 256, 16384]),
+        (3, [1, 0, 1]),
+    ] {
         assert_eq!(check_record(&sizes([f, s, n, 65535]), 256), refused(number, 0));
     }
-    for (number, [f, s1, s2, n]) in
-        [(2, [0, 0, 0, 0]), (2, [4097, 0, 0, 0]), (2, [1, 257, 0, 0]), (2, [1, 0, 257, 0]), (2, [1, 0, 0, 16385]), (3, [4096, 256, 256, 16384])]
-    {
+    for (number, [f, s1, s2, n]) in [
+        (2, [0, 0, 0, 0]),
+        (2, [4097, 0, 0, 0]),
+        (2, [1, 257, 0, 0]),
+        (2, [1, 0, 257, 0]),
+        (2, [1, 0, 0, 16385]),
+        (3, [4096, 256, 256, 16384]),
+    ] {
         assert_eq!(check_exchange(&sizes([f, s1, s2, n])), refused(number, 0));
     }
     assert_eq!(check_record(&[0xff; 120_001], 256), refused(2, 0));
@@ -149,7 +168,19 @@ fn sizes_and_lengths() {
 
 #[test]
 fn tables_and_lists() {
-    for bad in [(0, 1), (4097, 0), (4096, 1), (8193, 0), (8192, 1), (12289, 0), (16384, 1), (20480, 1), (20480, 4096), (24576, 0), (65535, 0)] {
+    for bad in [
+        (0, 1),
+        (4097, 0),
+        (4096, 1),
+        (8193, 0),
+        (8192, 1),
+        (12289, 0),
+        (16384, 1),
+        (20480, 1),
+        (20480, 4096),
+        (24576, 0),
+        (65535, 0),
+    ] {
         assert_eq!(record(&[(5, 0), bad, bad], &[], 0, &[0]), refused(4, 1), "{bad:?}");
         assert_eq!(exchange(&[(5, 0), bad, bad], &[], &[], &[]), refused(4, 1), "{bad:?}");
     }
@@ -187,9 +218,29 @@ fn one_step() {
     for word in [49152, 65535] {
         assert_eq!(record(T, &[], 0, &[word]), refused(11, 0));
     }
-    // Right rules need a truth: at an affirmation of a says, an and, an or, an implication, an atom.
-    let table = &[(0, 0), (4096, 0), (8192, 0), (12288, 0), (16384, 0), (20487, 0), (20488, 0), (20488, 2), (20488, 3), (20488, 4), (20488, 5)];
-    for (goal, code) in [(6, 0), (7, IMPLIES_RIGHT), (8, AND_RIGHT), (9, OR_FIRST), (9, OR_SECOND), (10, SAYS_RIGHT)] {
+    // Right rules need a truth: at an affirmation of a says, an and, an or, an implication, an
+    // atom.
+    let table = &[
+        (0, 0),
+        (4096, 0),
+        (8192, 0),
+        (12288, 0),
+        (16384, 0),
+        (20487, 0),
+        (20488, 0),
+        (20488, 2),
+        (20488, 3),
+        (20488, 4),
+        (20488, 5),
+    ];
+    for (goal, code) in [
+        (6, 0),
+        (7, IMPLIES_RIGHT),
+        (8, AND_RIGHT),
+        (9, OR_FIRST),
+        (9, OR_SECOND),
+        (10, SAYS_RIGHT),
+    ] {
         assert_eq!(record(table, &[0], goal, &[SAYS_RIGHT, code]), refused(13, 1));
     }
     // False proves any goal, an affirmation too.
@@ -197,22 +248,48 @@ fn one_step() {
     assert_eq!(record(table, &[1], 6, &[SAYS_RIGHT, FALSE_LEFT + 1]), granted(&[]));
 }
 
-/// 0 is A, 1 is B, 2 A implies B, 3 A or B, 4 7 says B, 5 A implies A, 6 (5 and A), 7 B or A, 8 7 says A.
-const MIX: Table = &[(0, 0), (1, 0), (8192, 1), (16384, 1), (20487, 1), (8192, 0), (12293, 0), (16385, 0), (20487, 0)];
+/// 0 is A, 1 is B, 2 A implies B, 3 A or B, 4 7 says B, 5 A implies A, 6 (5 and A), 7 B or A, 8 7
+/// says A.
+const MIX: Table = &[
+    (0, 0),
+    (1, 0),
+    (8192, 1),
+    (16384, 1),
+    (20487, 1),
+    (8192, 0),
+    (12293, 0),
+    (16385, 0),
+    (20487, 0),
+];
 
 #[test]
 fn errors_of_classes() {
     // Init on an affirmation; affirm comes first.
     assert_eq!(record(T, &[0], 1, &[SAYS_RIGHT, 0]), refused(13, 1));
     // The first premise of implies-left is a truth, the second keeps the affirmation.
-    assert_eq!(record(MIX, &[0, 2], 4, &[SAYS_RIGHT, IMPLIES_LEFT + 2, 0, AFFIRM, 1]), granted(&[]));
-    assert_eq!(record(MIX, &[0, 2], 4, &[SAYS_RIGHT, IMPLIES_LEFT + 2, AFFIRM, 0, AFFIRM, 1]), refused(13, 2));
+    assert_eq!(
+        record(MIX, &[0, 2], 4, &[SAYS_RIGHT, IMPLIES_LEFT + 2, 0, AFFIRM, 1]),
+        granted(&[])
+    );
+    assert_eq!(
+        record(MIX, &[0, 2], 4, &[SAYS_RIGHT, IMPLIES_LEFT + 2, AFFIRM, 0, AFFIRM, 1]),
+        refused(13, 2)
+    );
     assert_eq!(record(MIX, &[0, 2], 4, &[SAYS_RIGHT, IMPLIES_LEFT + 2, 0, 1]), refused(13, 3));
-    assert_eq!(record(MIX, &[8, 2], 4, &[SAYS_RIGHT, IMPLIES_LEFT + 2, SAYS_LEFT + 8]), refused(14, 2));
+    assert_eq!(
+        record(MIX, &[8, 2], 4, &[SAYS_RIGHT, IMPLIES_LEFT + 2, SAYS_LEFT + 8]),
+        refused(14, 2)
+    );
     // The named hypothesis stays, in both premises.
     assert_eq!(record(AND, &[2], 0, &[AND_LEFT + 2, AND_LEFT + 2, 0]), granted(&[]));
-    assert_eq!(record(MIX, &[0, 2], 1, &[IMPLIES_LEFT + 2, 0, IMPLIES_LEFT + 2, 0, 1]), granted(&[]));
-    assert_eq!(record(MIX, &[8], 8, &[SAYS_RIGHT, SAYS_LEFT + 8, SAYS_LEFT + 8, AFFIRM, 0]), granted(&[7]));
+    assert_eq!(
+        record(MIX, &[0, 2], 1, &[IMPLIES_LEFT + 2, 0, IMPLIES_LEFT + 2, 0, 1]),
+        granted(&[])
+    );
+    assert_eq!(
+        record(MIX, &[8], 8, &[SAYS_RIGHT, SAYS_LEFT + 8, SAYS_LEFT + 8, AFFIRM, 0]),
+        granted(&[7])
+    );
     // What the first premise adds isn't in the second, and what stood there before still is.
     assert_eq!(record(MIX, &[3], 0, &[OR_LEFT + 3, 0, 0]), refused(12, 2));
     assert_eq!(record(MIX, &[3], 7, &[OR_LEFT + 3, OR_SECOND, 0, OR_FIRST, 1]), granted(&[]));
@@ -230,16 +307,26 @@ fn errors_of_classes() {
 fn deep_trees() {
     let all: Vec<u16> = (3840..4096).collect();
     for (kind, doubled) in [(5, false), (2, true), (3, true), (4, true)] {
-        let chain: Vec<(u16, u16)> =
-            (0..4096u16).map(|own| if own == 0 { (0, 0) } else { (kind * 4096 + if doubled { own - 1 } else { 7 }, own - 1) }).collect();
+        let chain: Vec<(u16, u16)> = (0..4096u16)
+            .map(|own| {
+                if own == 0 {
+                    (0, 0)
+                } else {
+                    (kind * 4096 + if doubled { own - 1 } else { 7 }, own - 1)
+                }
+            })
+            .collect();
         let signers = if doubled { vec![] } else { vec![7] };
         assert_eq!(record(&chain, &all, 0, &[0]), refused(12, 0));
         assert_eq!(record(&chain, &[&all[1..], &[0]].concat(), 0, &[0]), granted(&signers));
         assert_eq!(exchange(&chain, &all, &all, &[0]), refused(12, 0));
     }
-    // Depth 512 of the derivation with the deepest comparison at its end: two chains of one height, unlike only in their atoms.
-    let chains: Vec<(u16, u16)> = (0..4096u16).map(|own| if own < 2 { (own, 0) } else { (20487, own - 2) }).collect();
-    let steps = [vec![SAYS_RIGHT], vec![SAYS_LEFT + 4095; 510], vec![SAYS_LEFT + 4094, AFFIRM]].concat();
+    // Depth 512 of the derivation with the deepest comparison at its end: two chains of one height,
+    // unlike only in their atoms.
+    let chains: Vec<(u16, u16)> =
+        (0..4096u16).map(|own| if own < 2 { (own, 0) } else { (20487, own - 2) }).collect();
+    let steps =
+        [vec![SAYS_RIGHT], vec![SAYS_LEFT + 4095; 510], vec![SAYS_LEFT + 4094, AFFIRM]].concat();
     assert_eq!(record(&chains, &[4095], 4094, &steps), refused(12, 511));
     assert_eq!(record(&chains, &[4095, 4094], 4094, &steps), refused(10, 512));
 }
@@ -261,7 +348,8 @@ fn any_bytes() {
         let mut file = bases[round % 3].clone();
         for _ in 0..1 + random() % 3 {
             let place = random() % file.len();
-            file[place] = if random() % 2 == 0 { random() as u8 } else { (random() % 12 * 16) as u8 };
+            file[place] =
+                if random() % 2 == 0 { random() as u8 } else { (random() % 12 * 16) as u8 };
         }
         let _ = check_record(&file, random() % 2);
         let _ = check_exchange(&file);

@@ -1,5 +1,6 @@
-//! `cargo run --release --bin agree -- --files N --seed S [--threads T]`: both checkers on N files. It ends with the tally and status 0, or with
-//! status 1 on the first disagreement, or where a refusal, a rule or a grant never occurred.
+//! `cargo run --release --bin agree -- --files N --seed S [--threads T]`: both checkers on N files.
+//! It ends with the tally and status 0, or with status 1 on the first disagreement, or where a
+//! refusal, a rule or a grant never occurred.
 use agree::given::given;
 use agree::run::run;
 use std::io::{stderr, IsTerminal, Write};
@@ -16,7 +17,8 @@ fn main() -> ExitCode {
     };
     let start = Instant::now();
     let progress = Progress::new(files);
-    let found = run(files, threads as usize, &|number| given(seed, number), &|done| progress.show(done));
+    let found =
+        run(files, threads as usize, &|number| given(seed, number), &|done| progress.show(done));
     progress.end();
     match found {
         Err((number, disagreement)) => {
@@ -25,7 +27,10 @@ fn main() -> ExitCode {
         }
         Ok(tally) => {
             let seconds = start.elapsed().as_secs_f64();
-            println!("{tally}\nseed {seed}: no disagreement, {seconds:.1} s, {:.0} files a second", files as f64 / seconds);
+            println!(
+                "{tally}\nseed {seed}: no disagreement, {seconds:.1} s, {:.0} files a second",
+                files as f64 / seconds
+            );
             let missing = tally.missing();
             missing.iter().for_each(|what| println!("never occurred: {what}"));
             if missing.is_empty() {

@@ -1,7 +1,8 @@
-//! A table whose entries fall to few roots of the index by which the proved checker makes test 5. As crates/table_check/src/repeat.rt has it, the root of
-//! an entry is (head + second × 5,061) mod 8,191.
-
-use super::table::{Table, IMPLIES, SAYS};
+//! A table whose entries fall to few roots of the index by which the proved checker makes test 5.
+//! As crates/table_check/src/repeat.rt has it, the root of an entry is (head + second × 5,061) mod
+//! 8,191.
+use super::provable_table::ProvableTable;
+use builder::table::Entry::{self, And, Atom, False, Implies, Or, Says};
 use std::collections::VecDeque;
 
 const ROOTS: usize = 8191;
@@ -17,36 +18,50 @@ const INVERSE: usize = {
     power
 };
 
-/// The entries of a root, as kind, first and second, whose greatest formula number is `newest`.
-fn entries_with(newest: usize, root: usize) -> Vec<(u16, usize, usize)> {
-    // as second: its head has this remainder; a head may have any principal, or a formula up to the newest
-    let remainder = (root + ROOTS - newest * FACTOR % ROOTS) % ROOTS;
-    let heads = (remainder..4096 * (SAYS as usize + 1)).step_by(ROOTS);
-    let as_second = heads.map(|head| ((head / 4096) as u16, head % 4096, newest)).filter(|e| e.0 == SAYS || (e.0 >= IMPLIES && e.1 <= newest));
+/// The entries of a root whose greatest formula number is `newest`.
+fn entries_with(newest: u16, root: usize) -> Vec<Entry> {
+    // as second: its head has this remainder; a head may have any principal, or a formula up to the
+    // newest
+    let remainder = (root + ROOTS - usize::from(newest) * FACTOR % ROOTS) % ROOTS;
+    let heads = (remainder..=usize::from(u16::MAX)).step_by(ROOTS);
+    let entries = heads.filter_map(|head| Entry::of((head as u16, newest)));
+    let as_second = entries.filter(|&entry| match entry {
+        Atom(_) | False => false,
+        Implies(a, _) | And(a, _) | Or(a, _) => a <= newest,
+        Says(..) => true,
+    });
     // as first: the one second that leads to the root, where it is older
-    let second = |kind: u16| (root + 3 * ROOTS - (kind as usize * 4096 + newest)) * INVERSE % ROOTS;
-    let as_first = (IMPLIES..SAYS).map(|kind| (kind, newest, second(kind))).filter(|e| e.2 < newest);
+    let with_second = |kind: fn(u16, u16) -> Entry| {
+        let (head, _) = kind(newest, 0).words();
+        let second = (root + 3 * ROOTS - usize::from(head)) * INVERSE % ROOTS;
+        (second < usize::from(newest)).then_some(kind(newest, second as u16))
+    };
+    let as_first = [Implies, And, Or].map(with_second).into_iter().flatten();
     as_second.chain(as_first).collect()
 }
 
-/// Fills a table to a size, each time from the first root that has an entry left: small tables need some roots, and most of a large one falls
-/// into the first.
-pub fn fill_crowded(table: &mut Table, formulas: usize) {
-    let mut left: [VecDeque<_>; 8] = Default::default();
+/// Fills a table to a size, each time from the first root that has an entry left: small tables need
+/// some roots, and most of a large one falls into the first.
+pub fn fill_crowded(table: &mut ProvableTable, formulas: usize) {
+    let mut left: [VecDeque<Entry>; 8] = Default::default();
     let mut seen = 0;
     while table.len() < formulas {
         for newest in seen..table.len() {
-            left.iter_mut().enumerate().for_each(|(root, entries)| entries.extend(entries_with(newest, root)));
+            for (root, entries) in left.iter_mut().enumerate() {
+                entries.extend(entries_with(newest as u16, root));
+            }
         }
         seen = table.len();
-        let (kind, first, second) = left.iter_mut().find_map(VecDeque::pop_front).expect("eight roots always have an entry left");
-        table.add(kind, first as u16, second as u16);
+        let entry = left.iter_mut().find_map(VecDeque::pop_front);
+        table.add(entry.expect("eight roots always have an entry left"));
     }
 }
 
 /// How many entries share the root that has most.
-pub fn most_at_one_root(table: &Table) -> usize {
-    let mut counts = vec![0; ROOTS];
-    table.heads.iter().zip(&table.seconds).for_each(|(&head, &second)| counts[(head as usize + second as usize * FACTOR) % ROOTS] += 1);
+pub fn most_at_one_root(table: &[(u16, u16)]) -> usize {
+    let mut counts = [0; ROOTS];
+    for &(head, second) in table {
+        counts[(usize::from(head) + usize::from(second) * FACTOR) % ROOTS] += 1;
+    }
     counts.into_iter().max().expect("there are roots")
 }

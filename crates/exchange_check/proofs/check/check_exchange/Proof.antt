@@ -1,7 +1,6 @@
 -- `exchange_check::check::check_exchange` meets its contract: 1 to 3, and then the rest. Assumes nothing.
 use borrow.Author.Needs.{needs}
-use Rattle.layout_check.proofs.ExchangeLayout.{layout-passed, at-most}
-use Rattle.exchange_check.proofs.Whole.{layout-refused}
+use Rattle.exchange_check.proofs.Whole.{layout-refused, layout-passed, at-most}
 use Rattle.exchange_check.proofs.check.check_exchange.Statement.{statement}
 use Rattle.exchange_check.proofs.check.check_exchange.Tie as tie
 

@@ -5,9 +5,9 @@ use mathlib.Core.Path.{_≡_, refl, sym, _∙_}
 use lib.ListN.{length, getD}
 use lib.Dec.{leb}
 use borrow.Author.Needs.{needs}
-use Rattle.table.specs.declared.place.Place.the-variants.{Nowhere}
-use Rattle.table.specs.First.{first}
-use Rattle.table.proofs.First.{first-none-more}
+use Rattle.basics.specs.declared.place.Place.the-variants.{Nowhere}
+use Rattle.basics.specs.First.{first}
+use Rattle.basics.proofs.First.{first-none-more}
 use Rattle.file.proofs.Outside.{outside-at, outside-nowhere}
 use Rattle.file.proofs.numbers.first_outside.Statement.{statement}
 use Rattle.file.proofs.numbers.first_outside.Tie as tie

@@ -5,7 +5,7 @@ use mathlib.Core.Path.{_≡_, sym}
 use lib.ListN.{length}
 use borrow.Author.Needs.{needs}
 use borrow.Author.Tests.{ltb-true, ltb-false}
-use Rattle.lent.proofs.Written.{written-none}
+use Rattle.basics.proofs.Written.{written-none}
 use Rattle.file.proofs.Reading.{read, read-length, read-more, read-all, read-full}
 use Rattle.file.proofs.words.read_words.Statement.{statement}
 use Rattle.file.proofs.words.read_words.Tie as tie

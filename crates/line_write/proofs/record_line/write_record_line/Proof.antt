@@ -5,7 +5,7 @@ use lib.Dec.{leb}
 use lib.ListN.{length}
 use borrow.Author.Needs.{needs}
 use borrow.Author.Tests.{not-true, not-false}
-use Rattle.record.specs.declared.verdict.Verdict.{Verdict}
+use Rattle.record.specs.declared.verdict.RecordVerdict.{RecordVerdict}
 use Rattle.line.specs.RecordLine.{recordLine}
 use Rattle.line.proofs.Line.{owed-none, owed-all}
 use Rattle.line_write.proofs.record_line.write_record_line.Statement.{statement}
@@ -24,14 +24,14 @@ returns-2 : tie.Need-returns-2
 returns-2 c =
     let v = c .before .before .before .before .before in
     let a = v .before .before .before .before .before .before .args in
-    owed-all (a .line .now) (ap (λ (u : Verdict). recordLine u (a .signers .now)) (v .verdict .given .1)) (has-room (v .before .before)) (c .before .before .fill-granted .ensures)
+    owed-all (a .line .now) (ap (λ (u : RecordVerdict). recordLine u (a .signers .now)) (v .verdict .given .1)) (has-room (v .before .before)) (c .before .before .fill-granted .ensures)
 
 returns-3 : tie.Need-returns-3
 unfolding recordLine
 returns-3 c =
     let v = c .before .before .before .before .before in
     let a = v .before .before .before .before .before .before .args in
-    owed-all (a .line .now) (ap (λ (u : Verdict). recordLine u (a .signers .now)) (v .verdict2 .given .1)) (has-room (v .before .before)) (c .before .before .fill-refused .ensures)
+    owed-all (a .line .now) (ap (λ (u : RecordVerdict). recordLine u (a .signers .now)) (v .verdict2 .given .1)) (has-room (v .before .before)) (c .before .before .fill-refused .ensures)
 
 pub write-record-line-spec : {M : Type 1} → statement M
 write-record-line-spec =

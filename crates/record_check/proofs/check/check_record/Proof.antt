@@ -1,8 +1,7 @@
 -- `record_check::check::check_record` meets its contract: 1 to 3, and then the rest. Assumes nothing.
 use mathlib.Core.Path.{refl}
 use borrow.Author.Needs.{needs}
-use Rattle.layout_check.proofs.RecordLayout.{layout-passed, at-most}
-use Rattle.record_check.proofs.Whole.{layout-refused}
+use Rattle.record_check.proofs.Whole.{layout-refused, layout-passed, at-most}
 use Rattle.record_check.proofs.check.check_record.Statement.{statement}
 use Rattle.record_check.proofs.check.check_record.Tie as tie
 

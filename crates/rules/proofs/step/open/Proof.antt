@@ -15,8 +15,11 @@ returns c = rw (lt-leb (c .before .before .before .before .args .depth) 512 (ome
 returns-2 : tie.Need-returns-2
 unfolding step
 returns-2 c =
-    let a = c .before .before .before .before .before .before .args in
-    rw (le-leb (a .depth) 512 (omega arith)) (opened _ (a .slots .now) _ _ (shows-shown (a .slots .now)) (c .before .is-hypothesis .ensures) (c .apply .ensures))
+    let h = c .before in
+    let a = h .before .before .before .before .before .before .before .args in
+    rw (le-leb (a .depth) 512 (omega arith))
+    (opened _ (a .slots .now) _ _ (shows-shown (a .slots .now)) (h .before .before .upper .ensures) (h .before .lower .ensures) (h .is-hypothesis .ensures)
+    (c .apply .ensures))
 
 pub open-spec : {M : Type 1} → statement M
-open-spec = tie.close (tie.spec returns (λ c κs. tt) (λ c κs. tt) returns-2)
+open-spec = tie.close (tie.spec returns (λ c κs. tt) (λ c κs. tt) (λ c κs. tt) (λ c κs. tt) returns-2)

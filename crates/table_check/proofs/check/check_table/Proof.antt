@@ -17,7 +17,7 @@ passed-2 : (c : tie.Else1) → let a = c .before .before .before .before .args i
 passed-2 c = sym (c .before .is-sized .ensures) ∙ not-false _ (c .if1 .left)
 
 returns-2 : tie.Need-returns-2
-returns-2 c = sym (refused-4 _ _ _ (passed-2 (c .before .before .before .before)) (sym (c .before .before .before .wrong-entry .ensures) ∙ c .before .i .given .1))
+returns-2 c = sym (refused-4 _ _ (passed-2 (c .before .before .before .before)) _ (sym (c .before .before .before .wrong-entry .ensures) ∙ c .before .i .given .1))
 
 repeated-entry-requires : tie.Need-repeated-entry-requires
 repeated-entry-requires c κs =
@@ -28,7 +28,7 @@ returns-3 : tie.Need-returns-3
 returns-3 c =
     let w = c .before .before .before .before .before .before in
     sym
-    (refused-5 _ _ _ (passed-2 (w .before)) (sym (w .wrong-entry .ensures) ∙ c .before .before .before .before .enum-told .given .1)
+    (refused-5 _ _ (passed-2 (w .before)) _ (sym (w .wrong-entry .ensures) ∙ c .before .before .before .before .enum-told .given .1)
     (sym (c .before .before .before .repeated-entry .ensures) ∙ c .before .i2 .given .1))
 
 returns-4 : tie.Need-returns-4

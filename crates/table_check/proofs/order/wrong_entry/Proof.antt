@@ -6,9 +6,9 @@ use mathlib.Core.Path.{_≡_, refl, sym, _∙_}
 use lib.ListN.{length}
 use borrow.Author.Needs.{needs}
 use borrow.Author.Tests.{ltb-true, ltb-false}
-use Rattle.table.specs.declared.place.Place.the-variants.{Nowhere}
-use Rattle.table.specs.First.{first}
-use Rattle.table.proofs.First.{first-none-more}
+use Rattle.basics.specs.declared.place.Place.the-variants.{Nowhere}
+use Rattle.basics.specs.First.{first}
+use Rattle.basics.proofs.First.{first-none-more}
 use Rattle.table_check.proofs.Scan.{wrong, judged, wrong-at, wrong-nowhere}
 use Rattle.table_check.proofs.order.wrong_entry.Statement.{statement}
 use Rattle.table_check.proofs.order.wrong_entry.Tie as tie
@@ -23,11 +23,11 @@ loop-holds : tie.Need-loop-holds Inv-loop μ-loop
 unfolding first
 loop-holds c = (omega arith, omega arith, refl)
 
--- what is_right answered of entry i
+-- what is_well_formed answered of entry i
 asked :
-    (c : tie.After-is-right Inv-loop μ-loop) → let a = c .before .before .before .before .before .before .before .before .args in
-    wrong (a .heads .now) (a .seconds .now) (c .before .before .before .before .before .loop .i) ≡ not (c .is-right .result)
-asked c = judged _ _ _ _ (omega arith) (omega (arith, ltb-true)) (c .is-right .ensures)
+    (c : tie.After-is-well-formed Inv-loop μ-loop) → let a = c .before .before .before .before .before .before .before .before .args in
+    wrong (a .heads .now) (a .seconds .now) (c .before .before .before .before .before .loop .i) ≡ not (c .is-well-formed .result)
+asked c = judged _ _ _ _ (omega arith) (omega (arith, ltb-true)) (c .is-well-formed .ensures)
 
 returns : tie.Need-returns Inv-loop μ-loop
 returns c =

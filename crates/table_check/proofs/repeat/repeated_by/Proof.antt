@@ -5,8 +5,8 @@ use native.Mathlib.Omega.{arith}
 use mathlib.Core.Bool.{false}
 use mathlib.Core.Path.{_≡_, refl, sym, _∙_}
 use lib.ListN.{length}
-use Rattle.table.specs.declared.place.Place.the-variants.{Nowhere}
-use Rattle.table.specs.First.{first}
+use Rattle.basics.specs.declared.place.Place.the-variants.{Nowhere}
+use Rattle.basics.specs.First.{first}
 use Rattle.table_check.specs.Index.{Indexed}
 use Rattle.table_check.proofs.Scan.{opposite, repeated, repeated-at, repeated-none-more, repeated-nowhere}
 use Rattle.table_check.proofs.repeat.repeated_by.Statement.{statement}

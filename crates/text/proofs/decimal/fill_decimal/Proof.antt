@@ -1,7 +1,7 @@
 -- `decimal::fill_decimal` meets its contract: what it fills in are the places from the first digit on. Assumes nothing.
 use mathlib.Core.Path.{ap, _∙_}
 use borrow.Author.Needs.{needs}
-use Rattle.lent.specs.Written.{writtenAt}
+use Rattle.basics.specs.Written.{writtenAt}
 use Rattle.text.specs.Fill.{placeAfter}
 use Rattle.text.proofs.Spelling.{spelled-part}
 use Rattle.text.proofs.decimal.fill_decimal.Statement.{statement}

@@ -1,0 +1,35 @@
+-- The first place of a fault. "Places count from 0." (01) Assumes nothing.
+use Prim.Native.Nat.{ℕ, zero, suc, _<_}
+use mathlib.Core.Bool.{Bool, true, false}
+use mathlib.Core.Path.{_≡_}
+use mathlib.Core.Logic.{_↔_}
+use Rattle.basics.specs.declared.place.Place.{Place}
+use Rattle.basics.specs.declared.place.Place.the-variants.{At, Nowhere}
+use Rattle.basics.specs.Choice.{pick}
+
+-- a place that was found stands; else the other counts
+abbrev pub orElse : Place → Place → Place
+orElse (At i) other = At i
+orElse Nowhere other = other
+
+-- the first of the places 0 to n - 1 that has a fault
+unfoldable pub first : (ℕ → Bool) → ℕ → Place
+first fault zero = Nowhere
+first fault (suc n) = orElse (first fault n) (pick (fault n) (At n) Nowhere)
+
+abbrev pub found : Place → Bool
+found (At i) = true
+found Nowhere = false
+
+-- i is a place below n, has a fault, and no place before it has one
+pub record IsFirst (fault : ℕ → Bool) (n i : ℕ) : Type 0 where
+  pub within : i < n
+  pub is-fault : fault i ≡ true
+  pub none-before : (j : ℕ) → j < i → fault j ≡ false
+
+-- What `first` answers. Proved in proofs/First.antt.
+abbrev pub FirstPlace : Type 0
+FirstPlace = (fault : ℕ → Bool) (n i : ℕ) → first fault n ≡ At i ↔ IsFirst fault n i
+
+abbrev pub NoPlace : Type 0
+NoPlace = (fault : ℕ → Bool) (n : ℕ) → first fault n ≡ Nowhere ↔ ((i : ℕ) → i < n → fault i ≡ false)

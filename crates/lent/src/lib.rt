@@ -1,1 +1,0 @@
-// What a call leaves in what it was lent: definitions and laws, and no code.

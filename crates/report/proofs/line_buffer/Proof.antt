@@ -1,0 +1,10 @@
+-- `report::line_buffer` meets its contract: the code's MOST_LINE is the definition's. Assumes nothing.
+use mathlib.Core.Path.{refl}
+use Rattle.report.proofs.line_buffer.Statement.{statement}
+use Rattle.report.proofs.line_buffer.Tie as tie
+
+returns : tie.Need-returns
+returns c = refl
+
+pub line-buffer-spec : {M : Type 1} → statement M
+line-buffer-spec = tie.close (tie.spec returns)

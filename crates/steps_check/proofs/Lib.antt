@@ -1,4 +1,0 @@
--- The laws behind the code.
-pub mod AllUsed
-pub mod RecordSteps
-pub mod ExchangeSteps

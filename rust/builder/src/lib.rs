@@ -1,0 +1,15 @@
+//! Builds records and exchange files: what the generators, the benchmark and the tests share. The
+//! package `second` uses none of it.
+//!
+//! - `table`: a table that holds each entry once.
+//! - `steps`: the step words of the rules.
+//! - `layout`: a file's words, and its bytes.
+//! - `random`: numbers that look random.
+//! - `samples`: samples of document 01, as words.
+#![forbid(unsafe_code)]
+
+pub mod layout;
+pub mod random;
+pub mod samples;
+pub mod steps;
+pub mod table;

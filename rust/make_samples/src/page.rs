@@ -1,0 +1,96 @@
+//! The index pages of the samples, for teachers.
+use crate::exchange::Exchange;
+use crate::record::Record;
+use crate::sample::{Kind, Section};
+use std::fmt::Write;
+
+const RECORDS: &str = include_str!("../pages/records.md");
+
+const EXCHANGES: &str = include_str!("../pages/exchanges.md");
+
+/// "Refused, in checking order" (01): the numbers from 1, and the places.
+const REFUSALS: [(&str, &str); 15] = [
+    ("The file has fewer than 8 bytes.", "0"),
+    ("F, S or N is outside its range.", "0"),
+    ("The length isn't that of the sizes.", "0"),
+    ("An entry has kind 6 or more or a wrong operand.", "the first such entry"),
+    ("An entry has the head and second of an earlier one.", "the first such later entry"),
+    ("The goal's number is F or more.", "0"),
+    ("A statement's number is F or more.", "the first such position"),
+    ("The lent list is shorter than the number of signers.", "0"),
+    (
+        "The steps end while a premise is open or a whole proof is still due.",
+        "N, the number of steps",
+    ),
+    ("The step's depth is above 512.", "the step"),
+    ("The code is 12 or more, or a rule that names nothing has a part other than 0.", "the step"),
+    ("The named formula isn't a hypothesis here; a number of F or more never is.", "the step"),
+    (
+        "The goal isn't what the rule needs (code 11's goal excepted), the named formula isn't \
+         of the kind the rule needs, or code 0 names another atom than the goal's.",
+        "the step",
+    ),
+    ("Code 11 names a says-formula of K and the goal isn't an affirmation by K.", "the step"),
+    ("The proof is closed and words remain.", "the first of them"),
+];
+
+/// What reads otherwise for an exchange file: "the list above without 6 and 8. Places for 7 run
+/// through both lists, for 9 to 15 through all step words; depth starts at 1 in each proof".
+fn exchange_refusal(number: usize) -> Option<(&'static str, &'static str)> {
+    match number {
+        2 => Some(("F, S1, S2 or N is outside its range.", "0")),
+        6 | 8 => None,
+        7 => Some((
+            "A statement's number is F or more.",
+            "the first such position, through the first list and then the second",
+        )),
+        10 => Some(("The step's depth, counted from 1 in each proof, is above 512.", "the step")),
+        15 => Some(("The last proof is closed and words remain.", "the first of them")),
+        _ => Some(REFUSALS[number - 1]),
+    }
+}
+
+pub fn of_records(sections: &[Section<Record>]) -> String {
+    page(RECORDS, |number| Some(REFUSALS[number - 1]), sections)
+}
+
+pub fn of_exchanges(sections: &[Section<Exchange>]) -> String {
+    page(EXCHANGES, exchange_refusal, sections)
+}
+
+fn page<T: Kind>(
+    head: &str,
+    refusal: impl Fn(usize) -> Option<(&'static str, &'static str)>,
+    sections: &[Section<T>],
+) -> String {
+    let mut text = format!("{head}\n| number | reason | place |\n|---|---|---|\n");
+    for number in 1..=REFUSALS.len() {
+        if let Some((reason, place)) = refusal(number) {
+            writeln!(text, "| {number} | {reason} | {place} |").unwrap();
+        }
+    }
+    for section in sections {
+        writeln!(text, "\n## {}\n\n{}", section.title, section.about).unwrap();
+        for sample in &section.samples {
+            writeln!(text, "\n### {}\n\n{}\n\n```", sample.file_name(), sample.shows).unwrap();
+            for (heading, rows) in sample.contents.iter().flat_map(T::parts) {
+                text.push_str(&under(heading, rows));
+            }
+            writeln!(text, "line        {}\n```", sample.line).unwrap();
+        }
+    }
+    text
+}
+
+/// Rows under a heading that stands at the first of them. An empty row stays empty.
+fn under(heading: &str, mut rows: Vec<String>) -> String {
+    if rows.is_empty() {
+        rows.push("none".to_string());
+    }
+    let mut text = String::new();
+    let headings = std::iter::once(heading).chain(std::iter::repeat(""));
+    for (heading, row) in headings.zip(rows) {
+        writeln!(text, "{}", format!("{heading:<12}{row}").trim_end()).unwrap();
+    }
+    text
+}

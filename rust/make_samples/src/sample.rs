@@ -1,0 +1,59 @@
+//! A sample: a file, what it shows, and its line.
+use builder::layout;
+
+/// A kind of file.
+pub trait Kind {
+    /// How the names of such files end.
+    const ENDING: &'static str;
+
+    fn words(&self) -> Vec<u16>;
+
+    /// What the page writes of it: a heading and its rows.
+    fn parts(&self) -> Vec<(&'static str, Vec<String>)>;
+
+    fn bytes(&self) -> Vec<u8> {
+        layout::bytes(&self.words())
+    }
+}
+
+/// One file: its name without the ending, what it shows, its bytes, and the line that the program
+/// prints for it. `contents` is what the page writes in words; a file that is damaged, or too long
+/// for the page, has none.
+pub struct Sample<T> {
+    pub name: &'static str,
+    pub shows: &'static str,
+    pub contents: Option<T>,
+    pub file: Vec<u8>,
+    pub line: &'static str,
+}
+
+impl<T: Kind> Sample<T> {
+    pub fn file_name(&self) -> String {
+        format!("{}.{}", self.name, T::ENDING)
+    }
+}
+
+pub struct Section<T> {
+    pub title: &'static str,
+    pub about: &'static str,
+    pub samples: Vec<Sample<T>>,
+}
+
+pub fn sample<T: Kind>(
+    name: &'static str,
+    shows: &'static str,
+    contents: T,
+    line: &'static str,
+) -> Sample<T> {
+    Sample { name, shows, file: contents.bytes(), contents: Some(contents), line }
+}
+
+/// A sample of which the page has no more than what it shows.
+pub fn bare<T>(
+    name: &'static str,
+    shows: &'static str,
+    file: Vec<u8>,
+    line: &'static str,
+) -> Sample<T> {
+    Sample { name, shows, file, contents: None, line }
+}

@@ -1,0 +1,94 @@
+//! The samples, their index pages and what is stored for the programs over them are what the
+//! generator writes, byte for byte, and nothing else stands beside them.
+use std::collections::BTreeMap;
+use std::fs;
+use std::path::{Path, PathBuf};
+use std::process::Command;
+
+/// The top of the repository.
+fn top() -> PathBuf {
+    let package = Path::new(env!("CARGO_MANIFEST_DIR"));
+    package.ancestors().nth(2).expect("the package stands in the repository's rust/").to_path_buf()
+}
+
+/// The program over the samples, and the link at the top to its files.
+const PROGRAM: &str = "crates/samples";
+const LINK: &str = "samples";
+
+/// The files of a folder, by name.
+fn files(folder: &Path) -> BTreeMap<String, Vec<u8>> {
+    let entries = fs::read_dir(folder);
+    let entries = entries.unwrap_or_else(|error| panic!("{}: {error}", folder.display()));
+    entries
+        .map(|entry| {
+            let entry = entry.expect("an entry of the folder");
+            let name = entry.file_name().into_string().expect("a name");
+            (name, fs::read(entry.path()).expect("a file"))
+        })
+        .collect()
+}
+
+fn assert_same(name: &str, stored: Option<&Vec<u8>>, made: Option<&Vec<u8>>) {
+    let run = "run `cargo run --release --bin make_samples` in rust/";
+    assert!(stored == made, "{name} is not what make_samples writes: {run}");
+}
+
+#[test]
+fn generated_files_are_the_stored_ones() {
+    let folder = Path::new(env!("CARGO_TARGET_TMPDIR")).join("made");
+    if folder.exists() {
+        fs::remove_dir_all(&folder).expect("what an earlier run made is removed");
+    }
+    let run = Command::new(env!("CARGO_BIN_EXE_make_samples")).arg(&folder).status();
+    assert!(run.expect("make_samples starts").success());
+
+    let data = Path::new(PROGRAM).join("data");
+    let (stored, made) = (files(&top().join(&data)), files(&folder.join(&data)));
+    for name in stored.keys().chain(made.keys()) {
+        assert_same(&data.join(name).display().to_string(), stored.get(name), made.get(name));
+    }
+    for name in ["args", "stdout"] {
+        let file = Path::new(PROGRAM).join(name);
+        let read = |top: &Path| fs::read(top.join(&file)).ok();
+        assert_same(&file.display().to_string(), read(&top()).as_ref(), read(&folder).as_ref());
+    }
+    assert_eq!(fs::read_link(top().join(LINK)).ok(), Some(data), "the link {LINK}");
+}
+
+#[test]
+fn every_sample_has_a_line() {
+    let program = top().join(PROGRAM);
+    let read = |name: &str| fs::read_to_string(program.join(name)).expect("what is stored for it");
+    let lines = read("stdout");
+    let parted = lines.lines().map(|line| line.split_once(' ').expect(line));
+    let lines: Vec<(&str, &str)> = parted.collect();
+    let mut names: Vec<&str> = lines.iter().map(|&(name, _)| name).collect();
+    assert_eq!(read("args").lines().collect::<Vec<_>>(), names);
+    for (name, line) in lines {
+        let (_, ending) = name.rsplit_once('.').expect(name);
+        assert!(is_line(ending, line), "{name} {line}");
+    }
+
+    names.extend(["README.md", "EXCHANGES.md"]);
+    names.sort();
+    assert_eq!(files(&top().join(LINK)).keys().collect::<Vec<_>>(), names);
+}
+
+/// A line of document 01's for a file of that kind.
+fn is_line(ending: &str, line: &str) -> bool {
+    let is_number = |word: &str| word.parse().is_ok_and(|number: u16| number.to_string() == word);
+    match line.split(' ').collect::<Vec<_>>()[..] {
+        ["equal"] => ending == "exchange",
+        ["granted", count, ref signers @ ..] => {
+            let is_counted = count == signers.len().to_string();
+            ending == "record" && is_counted && signers.iter().all(|signer| is_number(signer))
+        }
+        ["refused", number, "place", place] => {
+            // an exchange file has no goal and no signers
+            let missing = ending == "exchange" && ["6", "8"].contains(&number);
+            let is_known = (1..=15).contains(&number.parse().unwrap_or(0)) && !missing;
+            is_number(number) && is_known && is_number(place)
+        }
+        _ => false,
+    }
+}

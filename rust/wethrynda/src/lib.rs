@@ -1,0 +1,86 @@
+//! The checks of release records and of exchange files, which are written and proved in Rattle, for
+//! Rust.
+//!
+//! The contracts of the functions behind [`check_record`] and [`check_exchange`] stand in
+//! `crates/ffi/src/lib.rt`; what a record and an exchange file are, and what each refusal means,
+//! stands in `crates/record/specs/` and `crates/exchange/specs/`.
+
+/// What the check of a record answers.
+#[derive(Clone, Copy, Debug, PartialEq, Eq)]
+pub enum Verdict {
+    /// The record is granted, with so many signers.
+    Granted(usize),
+    /// The record is refused, by the first reason that applies: its number, from 1 to 15, and the
+    /// place where it was found, counted from 0.
+    Refused { number: u8, place: usize },
+}
+
+/// What the check of an exchange file answers.
+#[derive(Clone, Copy, Debug, PartialEq, Eq)]
+pub enum Exchange {
+    /// The file proves each statement of its second list from its first list, and each of the first
+    /// from the second; so the two lists are equal in force: whatever has a proof from one has a
+    /// proof from the other.
+    Equal,
+    /// The file does not show it; the lists may be equal in force all the same. It is refused by
+    /// the first reason that applies: its number, from 1 to 15 but not 6 or 8, and the place where
+    /// it was found, counted from 0, statements through the first list and then the second, steps
+    /// through all proofs.
+    Refused { number: u8, place: usize },
+}
+
+/// A list of so many words is long enough for the signers of every record.
+pub const MOST_SIGNERS: usize = 256;
+
+// As `include/wethrynda.h` has it. Nothing checks this against the Rattle source: a slice is a
+// pointer and then a length.
+extern "C" {
+    fn wethrynda_check_record(
+        file: *const u8,
+        file_length: usize,
+        signers: *mut u16,
+        signers_length: usize,
+    ) -> u64;
+    fn wethrynda_check_exchange(file: *const u8, file_length: usize) -> u64;
+}
+
+/// The number and the place of a refusal, which is number × 2^32 + place. Every other answer is
+/// less than 2^32. The contracts bound them: number by 15, place by 16,384.
+fn refusal(answer: u64) -> Option<(u8, usize)> {
+    let (high, low) = (answer >> 32, answer & 0xffff_ffff);
+    (high != 0).then_some((high as u8, low as usize))
+}
+
+/// Checks a record: any bytes, of any length.
+///
+/// Granted, its signers, principal numbers from 0 to 4095, stand at the start of the list that is
+/// lent, each once, in an order that is free; the words after them are as they were. Refused, no
+/// word of the list has changed. A list shorter than the number of signers is refusal 8.
+///
+/// It needs about 600 KB of stack, which a thread has by default.
+pub fn check_record(file: &[u8], signers: &mut [u16]) -> Verdict {
+    let (list, room) = (signers.as_mut_ptr(), signers.len());
+    // SAFETY: both pointers are those of slices, so they are not null and are aligned, even where
+    // the slice is empty, and the lengths are theirs; no other reference reaches the list while it
+    // is lent, so the two do not overlap. The function's contract asks nothing more, and it is
+    // proved to stay inside what is lent.
+    let answer = unsafe { wethrynda_check_record(file.as_ptr(), file.len(), list, room) };
+    match refusal(answer) {
+        Some((number, place)) => Verdict::Refused { number, place },
+        // a grant is its count, 256 at most
+        None => Verdict::Granted(answer as usize),
+    }
+}
+
+/// Checks an exchange file: any bytes, of any length. Nothing is changed.
+///
+/// It needs about 600 KB of stack, which a thread has by default.
+pub fn check_exchange(file: &[u8]) -> Exchange {
+    // SAFETY: the pointer is that of a slice, so it is not null, even where the slice is empty, and
+    // the length is its own. The function's contract asks nothing more, and it is proved to stay
+    // inside what is lent.
+    match refusal(unsafe { wethrynda_check_exchange(file.as_ptr(), file.len()) }) {
+        Some((number, place)) => Exchange::Refused { number, place },
+        None => Exchange::Equal,
+    }
+}

@@ -1,0 +1,87 @@
+//! The header and the library from C: the example program is compiled without a warning, and run on
+//! the samples.
+mod common;
+
+use common::{samples, top, Answer};
+use std::path::{Path, PathBuf};
+use std::process::{Command, Output};
+
+/// A place for a file that a test makes.
+fn made(name: &str) -> PathBuf {
+    Path::new(env!("CARGO_TARGET_TMPDIR")).join(name)
+}
+
+/// The example program, compiled as its first comment says. Each test has one of its own, since
+/// they run at the same time.
+fn compiled(name: &str) -> PathBuf {
+    let top = top();
+    let program = made(name);
+    let run = Command::new("cc")
+        .args(["-std=c99", "-pedantic", "-Wall", "-Wextra", "-Werror", "-O2"])
+        .arg("-I")
+        .arg(top.join("include"))
+        .arg(top.join("examples/check.c"))
+        .arg(top.join("target/staticlib/libffi.a"))
+        .arg("-o")
+        .arg(&program)
+        .output()
+        .expect("cc starts");
+    assert!(run.status.success(), "{}", String::from_utf8_lossy(&run.stderr));
+    program
+}
+
+fn check(program: &Path, kind: &str, file: &Path) -> Output {
+    Command::new(program).arg(kind).arg(file).output().expect("the example program starts")
+}
+
+/// No verdict: nothing on standard output, a word on standard error, and status 2.
+fn assert_no_verdict(run: Output, about: &str) {
+    assert_eq!((run.status.code(), run.stdout), (Some(2), vec![]), "{about}");
+    assert!(!run.stderr.is_empty(), "{about}");
+}
+
+#[test]
+fn samples_of_both_kinds() {
+    let program = compiled("check_samples");
+    for sample in samples("") {
+        let (_, kind) = sample.name.rsplit_once('.').expect(&sample.name);
+        let run = check(&program, kind, &top().join("samples").join(&sample.name));
+        let said = String::from_utf8(run.stdout).expect("text");
+        let status = match sample.answer {
+            Answer::Granted(mut signers) => {
+                let granted = format!("granted {}", signers.len());
+                let listed = said.strip_prefix(&granted).expect(&sample.name).split_whitespace();
+                let mut listed: Vec<u16> = listed.map(|word| word.parse().expect(word)).collect();
+                signers.sort();
+                listed.sort();
+                assert_eq!(listed, signers, "{}", sample.name);
+                0
+            }
+            Answer::Equal => {
+                assert_eq!(said, "equal\n", "{}", sample.name);
+                0
+            }
+            Answer::Refused(number, place) => {
+                assert_eq!(said, format!("refused {number} place {place}\n"), "{}", sample.name);
+                1
+            }
+        };
+        assert_eq!(run.status.code(), Some(status), "{}", sample.name);
+    }
+}
+
+#[test]
+fn no_verdict() {
+    let program = compiled("check_nothing");
+    let folder = top().join("samples");
+    for kind in ["record", "exchange"] {
+        for unreadable in [folder.join("none"), folder.clone()] {
+            let about = format!("{kind} {}", unreadable.display());
+            assert_no_verdict(check(&program, kind, &unreadable), &about);
+        }
+    }
+    let record = folder.join("A.record");
+    assert_no_verdict(check(&program, "records", &record), "another word");
+    let run = Command::new(&program).arg(&record).output().expect("the example program starts");
+    assert_no_verdict(run, "one word only");
+}
