@@ -1,4 +1,5 @@
--- The theorems whose statements are in specs/, and the laws that everything above leans on: Asked has what a Boolean test asks.
+-- The theorems whose statements are in specs/, and the laws that everything above leans on: Asked has what a Boolean
+-- test asks.
 pub mod Choice
 pub mod Membership
 pub mod First

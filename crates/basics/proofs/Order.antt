@@ -13,7 +13,7 @@ use Rattle.basics.specs.declared.tested.Tested.the-variants.{Refused}
 use Rattle.basics.specs.Choice.{pick, both}
 use Rattle.basics.specs.Membership.{_∈_, holds}
 use Rattle.basics.specs.Refusals.{Test, firstRefusal, FirstThat}
-use Rattle.basics.specs.Order.{checkingOrder, before, FirstReason, BeforeIsLower, Samples}
+use Rattle.basics.specs.Order.{checkingOrder, before, FirstReason, BeforeIsLower, FirstIsLowest, Samples}
 use Rattle.basics.proofs.Choice.{both-true, pick-cases}
 use Rattle.basics.proofs.Membership.{holds-member}
 use Rattle.basics.proofs.Asked.{somewhere}
@@ -145,7 +145,8 @@ then-first (a ∷ ns) (t ∷ ts) number p d (inr f) one none =
     let other = unlike a ns new number (applying-in ns (t ∷ ts) number p f one) in
     then-first ns (t ∷ ts) number p rest f one (λ n q i s. none n q (later-before a number ns other n i) s)
 
--- A list of tests that follows the order refuses by the first reason in it, whatever the reasons are that the tests stand for.
+-- A list of tests that follows the order refuses by the first reason in it, whatever the reasons are that the tests
+-- stand for.
 pub refused-in-order :
     (order : List ℕ) → distinct order ≡ true → (ts : List Test) → Follows order ts
     → (Reason : ℕ → ℕ → Type 0) → ((n p : ℕ) → Reason n p ↔ OneApplies ts n p)
@@ -200,6 +201,10 @@ row-within a zero n m = absurd (List·Memᴰ·not-nil m)
 row-within a (suc k) n m =
     ⊎-elim (λ e. (omega arith, omega arith)) (λ later. let (l, u) = row-within (suc a) k n later in (omega arith, omega arith)) (List·Memᴰ·cases-cons m)
 
+pub in-checking-order : (number : ℕ) → number ∈ checkingOrder → (1 ≤ number) × (number ≤ 15)
+unfolding row
+in-checking-order number m = let (least, below) = row-within 1 15 number m in (least, omega arith)
+
 -- Before a number of a row stand the lower ones.
 before-in-row : (a k number n : ℕ) → number ∈ row a k → n ∈ before (row a k) number ↔ ((a ≤ n) × (n < number))
 unfolding row
@@ -226,7 +231,20 @@ before-in-row a (suc k) number n m =
 
 pub before-is-lower : BeforeIsLower
 unfolding row
-before-is-lower number n m = before-in-row 1 15 number n m
+before-is-lower number n least most = before-in-row 1 15 number n (in-row 1 15 number least (omega arith))
+
+pub first-is-lowest : FirstIsLowest
+first-is-lowest Reason range number p = (
+  λ r.
+      let (least, most) = range number p (r .applies) in (
+        r .applies,
+        λ n q less reason.
+            r .none-before n q (before-is-lower number n least most .1 (range n q reason .0, less)) reason,
+      ),
+  λ (reason, none).
+      let (least, most) = range number p reason in
+      record { applies = reason; none-before = λ n q i. none n q (before-is-lower number n least most .0 i .1) },
+)
 
 pub samples : Samples
 unfolding before

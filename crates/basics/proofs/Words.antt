@@ -1,9 +1,13 @@
 -- A word made of two numbers, and taken apart again (specs/Word.antt). Assumes nothing.
 use native.Mathlib.Omega.{arith}
-use Rattle.basics.specs.Word.{WordOfBoth, BothOfWord}
+use mathlib.Core.Path.{refl}
+use Rattle.basics.specs.Word.{WordOfBoth, BothOfWord, LowersAre}
 
 pub word-of-both : WordOfBoth
 word-of-both w = omega arith
 
 pub both-of-word : BothOfWord
 both-of-word u l fits = (omega arith, omega arith)
+
+pub lowers-are : LowersAre
+lowers-are = (refl, refl, omega arith)

@@ -1,4 +1,5 @@
--- Laws of `written` (specs/Written.antt), and those that a loop asks for which writes one word after the other. Assumes nothing.
+-- Laws of `written` (specs/Written.antt), and those that a loop asks for which writes one word after the other. Assumes
+-- nothing.
 use Prim.Native.Nat.{ℕ, zero, suc, _+_, _≤_, _<_}
 use native.Mathlib.Nat.{zero-add, suc-add, le-of-suc-le-suc}
 use native.Mathlib.Omega.{arith}

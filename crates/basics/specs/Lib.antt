@@ -1,5 +1,5 @@
--- The ground floor: what stands under every other crate, and knows nothing of files, tables or proofs. Definitions and the statements of theorems,
--- to be read in this order. The proofs are in proofs/.
+-- The ground floor: what every other crate may stand on, and what stands on none. Definitions and the statements of
+-- theorems, to be read in this order. The proofs are in proofs/.
 pub mod Limits
 pub mod Choice
 pub mod Membership

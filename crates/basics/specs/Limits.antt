@@ -1,5 +1,5 @@
--- The limits of 01, "The record" ("F formulas (1 to 4,096), S statements (0 to 256), N steps (1 to 16,384)", "depth is at most 512", "Atoms and
--- principals are numbered 0 to 4,095").
+-- The limits of 01, "The record" ("F formulas (1 to 4,096), S statements (0 to 256), N steps (1 to 16,384)", "depth is
+-- at most 512", "Atoms and principals are numbered 0 to 4,095").
 -- They stand here once, and once in src/limits.rt. Assumes nothing.
 use Prim.Native.Nat.{ℕ}
 

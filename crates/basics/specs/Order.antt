@@ -1,5 +1,6 @@
--- "refused by the first reason in the fixed order that applies" (demand 1): the order is a list of numbers, stated once, and first means that nothing
--- that stands before it in that list applies. Proved in proofs/Order.antt. Assumes nothing.
+-- "refused by the first reason in the fixed order that applies" (demand 1): the order is a list of numbers, stated
+-- once, and first means that nothing that stands before it in that list applies. Proved in proofs/Order.antt. Assumes
+-- nothing.
 use Prim.Native.Nat.{ℕ, _≤_, _<_}
 use mathlib.Core.Path.{_≡_}
 use mathlib.Core.Logic.{_↔_}
@@ -17,14 +18,23 @@ unfoldable pub before : List ℕ → ℕ → List ℕ
 before [] number = []
 before (n ∷ ns) number = pick (eqb n number) [] (n ∷ before ns number)
 
--- Of reasons to refuse, each with its number and its place: one that applies, where none that stands before it in the order does.
+-- Of reasons to refuse, each with its number and its place: one that applies, where none that stands before it in the
+-- order does.
 pub record FirstReason (order : List ℕ) (Reason : ℕ → ℕ → Type 0) (number p : ℕ) : Type 0 where
   pub applies : Reason number p
   pub none-before : (n q : ℕ) → n ∈ before order number → ¬ Reason n q
 
--- 01's numbers rise in its order: there, what stands before a number is what is lower. So of 01's reasons the first is the one with the lowest number.
+-- 01's numbers, 1 to 15, rise in its order: there, what stands before a number is what is lower.
 abbrev pub BeforeIsLower : Type 0
-BeforeIsLower = (number n : ℕ) → number ∈ checkingOrder → n ∈ before checkingOrder number ↔ ((1 ≤ n) × (n < number))
+BeforeIsLower =
+    (number n : ℕ) → 1 ≤ number → number ≤ 15 → n ∈ before checkingOrder number ↔ ((1 ≤ n) × (n < number))
+
+-- So of reasons with these numbers the first is the one with the lowest number.
+abbrev pub FirstIsLowest : Type 1
+FirstIsLowest =
+    (Reason : ℕ → ℕ → Type 0) → ((n p : ℕ) → Reason n p → (1 ≤ n) × (n ≤ 15))
+    → (number p : ℕ) → FirstReason checkingOrder Reason number p
+    ↔ (Reason number p × ((n q : ℕ) → n < number → ¬ Reason n q))
 
 -- An order in which 18 stands before 1, and 8 after 15: before 8 stand all others, and 18 before all.
 abbrev pub Samples : Type 0

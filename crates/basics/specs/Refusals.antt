@@ -1,5 +1,5 @@
--- "Every other file .. is refused by the first reason in the fixed order that applies, with its place" (demand 1): what "first" means, for
--- any list of tests. Proved in proofs/Refusals.antt. Assumes nothing.
+-- "Every other file .. is refused by the first reason in the fixed order that applies, with its place" (demand 1): what
+-- "first" means, for any list of tests. Proved in proofs/Refusals.antt. Assumes nothing.
 use Prim.Native.Nat.{ℕ}
 use mathlib.Core.Bool.{Bool}
 use mathlib.Core.Path.{_≡_}
@@ -28,10 +28,15 @@ abbrev pub refusedAt : ℕ → Place → Tested → Tested
 refusedAt number (At p) next = Refused number p
 refusedAt number Nowhere next = next
 
--- "Refused, in checking order": one test that applies refuses; else those after it decide
+-- "Refused, in checking order": a test that applies refuses; else those after it decide
 unfoldable pub firstRefusal : List Test → Tested
 firstRefusal [] = Passed
 firstRefusal (t ∷ ts) = refusedAt (t .number) (t .place) (firstRefusal ts)
+
+-- What a file's tests come to as an answer: a refusal stands, and else the verdict does. `refused` makes the refusal.
+abbrev pub unlessRefused : {A : Type 0} → (ℕ → ℕ → A) → Tested → A → A
+unlessRefused refused Passed verdict = verdict
+unlessRefused refused (Refused number p) verdict = refused number p
 
 -- The first test that applies has this number and this place; those before it apply nowhere.
 abbrev pub FirstThat : List Test → ℕ → ℕ → Type 0

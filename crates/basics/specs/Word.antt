@@ -1,7 +1,8 @@
--- A word that holds two numbers, upper × 4,096 + lower: "A head is kind × 4,096 + first operand." "A step word is code × 4,096 + the named formula's
--- number" (01). Proved in proofs/Words.antt. Assumes nothing.
-use Prim.Native.Nat.{ℕ, _+_, _*_, _/_, _%_, _<_}
+-- A word that holds two numbers, upper × 4,096 + lower: "A head is kind × 4,096 + first operand." "A step word is code
+-- × 4,096 + the named formula's number" (01). Proved in proofs/Words.antt. Assumes nothing.
+use Prim.Native.Nat.{ℕ, _+_, _*_, _/_, _%_, _<_, _≤_}
 use mathlib.Core.Path.{_≡_}
+use Rattle.basics.specs.Limits.{mostFormulas, mostAtoms, mostPrincipals}
 
 abbrev pub radix : ℕ
 radix = 4096
@@ -21,3 +22,7 @@ WordOfBoth = (w : ℕ) → word (upper w) (lower w) ≡ w
 
 abbrev pub BothOfWord : Type 0
 BothOfWord = (u l : ℕ) → l < radix → (upper (word u l) ≡ u) × (lower (word u l) ≡ l)
+
+-- Every lower number is that of an atom and of a principal, and every formula's number is a lower one.
+abbrev pub LowersAre : Type 0
+LowersAre = (mostAtoms ≡ radix) × (mostPrincipals ≡ radix) × (mostFormulas ≤ radix)

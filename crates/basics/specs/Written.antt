@@ -1,5 +1,5 @@
--- "A call that writes a list or a text writes from its start, gives how many words or bytes it wrote, and changes nothing beyond them." (01)
--- Proved in proofs/Written.antt. Assumes nothing.
+-- "A call that writes a list or a text writes from its start, gives how many words or bytes it wrote, and changes
+-- nothing beyond them." (01) Proved in proofs/Written.antt. Assumes nothing.
 use Prim.Native.Nat.{ℕ, _+_, _≤_}
 use mathlib.Core.Path.{_≡_}
 use mathlib.Core.List.{List, [], _∷_, _++_}

@@ -1,4 +1,5 @@
-// The types that every check answers with, the limits of 01, and words that hold two numbers. Definitions are in specs/.
+// The types that every check answers with, the limits of 01, and words that hold two numbers. Definitions are in
+// specs/.
 pub mod limits;
 pub mod place;
 pub mod tested;

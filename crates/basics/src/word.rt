@@ -1,4 +1,5 @@
-// "A head is kind × 4,096 + first operand." "A step word is code × 4,096 + the named formula's number" (01): words that hold two numbers.
+// "A head is kind × 4,096 + first operand." "A step word is code × 4,096 + the named formula's number" (01): words that
+// hold two numbers.
 ghost use mathlib.Core.Path.{_≡_};
 ghost use Rattle.basics.specs.Word.{upper as upper-of, lower as lower-of};
 

@@ -1,5 +1,5 @@
-// "One program reads a record on standard input and lends a list of 256 words .. prints one line." (01) All but reading and writing is
-// `record_line`'s.
+// "One program reads a record on standard input and lends a list of 256 words .. prints one line." (01) All but reading
+// and writing is `record_line`'s.
 use input::read_input;
 use libc::STDERR_FILENO;
 use libc::STDIN_FILENO;

@@ -1,5 +1,5 @@
--- Old releases keep their goals (specs/Releases.antt): a grant says that there is a derivation, and equal says that the lists are equal in force.
--- Assumes nothing.
+-- Old releases keep their goals (specs/Releases.antt): a grant says that there is a derivation, and equal says that the
+-- lists are equal in force. Assumes nothing.
 use Prim.Native.Nat.{ℕ}
 use mathlib.Core.Path.{refl, subst}
 use mathlib.Core.Logic.{Iff·symm, _⊎_, inl, inr, ⊎-elim}

@@ -1,7 +1,7 @@
--- "Next we fold the standing orders of our three machine halls into one shorter list of equal force, and the goal of every old release must then
--- keep a proof, of any size, from it and the same signed papers." (demand 3) For the files themselves: a record that was granted, and an exchange
--- file that is found equal. Each has a table of its own, so what counts is the propositions that their numbers spell. Proved in
--- proofs/Releases.antt. Assumes nothing.
+-- "Next we fold the standing orders of our three machine halls into one shorter list of equal force, and the goal of
+-- every old release must then keep a proof, of any size, from it and the same signed papers." (demand 3) For the files
+-- themselves: a record that was granted, and an exchange file that is found equal. Each has a table of its own, so what
+-- counts is the propositions that their numbers spell. Proved in proofs/Releases.antt. Assumes nothing.
 use Prim.Native.Nat.{ℕ}
 use mathlib.Core.Path.{_≡_}
 use mathlib.Core.List.{List, [], _∷_, _++_}
@@ -32,7 +32,8 @@ pub record Released (file : List ℕ) : Type 0 where
 
 -- ---- with any papers
 
--- For lists equal in force: whatever was released from old orders and papers has a proof from the new orders and the same papers.
+-- For lists equal in force: whatever was released from old orders and papers has a proof from the new orders and the
+-- same papers.
 abbrev pub KeptByForce : Type 0
 KeptByForce =
     (old new papers : List Proposition) → EqualInForce old new

@@ -1,4 +1,5 @@
--- The machine closes on the steps of a file that keeps the layout exactly when the file carries all proofs. Assumes nothing.
+-- The machine closes on the steps of a file that keeps the layout exactly when the file carries all proofs. Assumes
+-- nothing.
 use Prim.Native.Nat.{ℕ, _<_}
 use native.Mathlib.Omega.{arith}
 use mathlib.Core.Path.{_≡_, refl, sym, ap, subst, _∙_}

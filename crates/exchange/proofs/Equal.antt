@@ -1,5 +1,5 @@
--- A file is found equal exactly when it keeps the layout and its limits and carries all proofs, and so only where its lists are equal in force
--- (specs/Promises.antt). Assumes nothing.
+-- A file is found equal exactly when it keeps the layout and its limits and carries all proofs, and so only where its
+-- lists are equal in force (specs/Promises.antt). Assumes nothing.
 use Prim.Native.Nat.{ℕ}
 use mathlib.Core.Path.{ap, sym, subst, _∙_}
 use mathlib.Core.Logic.{⊎-elim}

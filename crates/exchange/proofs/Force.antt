@@ -1,4 +1,5 @@
--- Demand 3 over a table (specs/Force.antt): what the logic promises of propositions, for the numbers that spell them. Assumes nothing.
+-- Demand 3 over a table (specs/Force.antt): what the logic promises of propositions, for the numbers that spell them.
+-- Assumes nothing.
 use Prim.Native.Nat.{ℕ}
 use mathlib.Core.Path.{subst}
 use mathlib.Core.List.{List, _++_, map-append, Memᴰ·map, Memᴰ·of-map}

@@ -1,14 +1,14 @@
--- The exchange file's layout (specs/Layout.antt) in 01's numbers, and its ranges by name (specs/Proofs.antt). Assumes nothing.
+-- The exchange file's layout (specs/Layout.antt) in 01's numbers, and its ranges by name (specs/Proofs.antt). Assumes
+-- nothing.
 use Prim.Native.Nat.{ℕ, _+_, _*_}
 use native.Mathlib.Omega.{arith}
 use mathlib.Core.Path.{_≡_, refl, ap}
 use mathlib.Core.Logic.{_↔_}
 use mathlib.Core.List.{List}
 use Rattle.file.specs.Words.{part}
-use Rattle.file.specs.Layout as Any
-use Rattle.file.specs.Layout.{AllFit, Bounded}
+use Rattle.file.specs.Layout.{SizedBy, Bounded}
 use Rattle.exchange.specs.Layout.{exchangeLayout, formulas, firstCount, secondCount, stepCount, LayoutIs}
-use Rattle.exchange.specs.Proofs.{InRange, Sized}
+use Rattle.exchange.specs.Proofs.{RangesAre, Sized}
 
 pub layout-is : (file : List ℕ) → LayoutIs file
 layout-is file =
@@ -33,16 +33,15 @@ layout-is file =
 pub bounded : Bounded exchangeLayout
 bounded = refl
 
--- The fields are in the layout's ranges exactly when they are in those named.
-pub in-range : (file : List ℕ) → AllFit (exchangeLayout .fields) file 0 ↔ InRange file
-in-range file = (
+pub ranges-are : RangesAre
+ranges-are file = (
   λ ((f, f′), ((_, s), ((_, s′), ((_, n), _)))). record { some-formulas = f; few-formulas = f′; few-first = s; few-second = s′; few-steps = n },
   λ r.
       ((r .some-formulas, r .few-formulas), ((omega arith, r .few-first), ((omega arith, r .few-second), ((omega arith, r .few-steps), tt)))),
 )
 
-pub sized : (file : List ℕ) → Any.Sized exchangeLayout file ↔ Sized file
+pub sized : (file : List ℕ) → SizedBy exchangeLayout file ↔ Sized file
 sized file = (
-  λ s. record { in-range = in-range file .0 (s .in-range); length-is = s .length-is },
-  λ s. record { in-range = in-range file .1 (s .in-range); length-is = s .length-is },
+  λ s. record { in-range = ranges-are file .0 (s .in-range); length-is = s .length-is },
+  λ s. record { in-range = ranges-are file .1 (s .in-range); length-is = s .length-is },
 )

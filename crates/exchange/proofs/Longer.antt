@@ -1,13 +1,15 @@
--- A file longer than the longest exchange file has the answer of its first bytes (specs/Promises.antt, `LongerFile`). Assumes nothing.
+-- A file longer than the longest exchange file has the answer of its first bytes (specs/Promises.antt, `LongerFile`).
+-- Assumes nothing.
 use Prim.Native.Nat.{ℕ, suc}
 use mathlib.Core.Path.{ap}
 use mathlib.Core.List.{List}
 use lib.ListN.{take, drop}
 use Rattle.basics.specs.declared.tested.Tested.{Tested}
-use Rattle.file.proofs.LayoutLaws.{longer}
-use Rattle.exchange.specs.declared.verdict.ExchangeVerdict.the-variants.{Equal}
+use Rattle.basics.specs.Refusals.{unlessRefused}
+use Rattle.file.proofs.LayoutLaws.{longer-refused}
+use Rattle.exchange.specs.declared.verdict.ExchangeVerdict.the-variants.{Equal, Refused}
 use Rattle.exchange.specs.Layout.{exchangeLayout, mostBytes}
-use Rattle.exchange.specs.Answer.{tests, unlessRefused, exchangeAnswer}
+use Rattle.exchange.specs.Answer.{tests, exchangeAnswer}
 use Rattle.exchange.specs.Promises.{LongerFile}
 use Rattle.exchange.proofs.LayoutIs.{bounded}
 
@@ -15,4 +17,4 @@ pub longer-file : LongerFile
 unfolding exchangeAnswer
 longer-file file long =
     let front : List ℕ = take (suc mostBytes) file in
-    ap (λ (t : Tested). unlessRefused t Equal) (longer exchangeLayout bounded file long (drop 3 (tests file)) (drop 3 (tests front)))
+    ap (λ (t : Tested). unlessRefused Refused t Equal) (longer-refused exchangeLayout bounded file long (drop 3 (tests file)) (drop 3 (tests front)))

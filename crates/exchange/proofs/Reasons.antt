@@ -1,5 +1,5 @@
--- The reasons to refuse a file (specs/Reasons.antt) are the tests, where they apply; so a file is refused exactly by the reason that stands first in the
--- checking order (specs/Promises.antt, `RefusedExactly`). Assumes nothing.
+-- The reasons to refuse a file (specs/Reasons.antt) are the tests, where they apply; so a file is refused exactly by
+-- the reason that stands first in the checking order (specs/Promises.antt, `RefusedExactly`). Assumes nothing.
 use Prim.Native.Nat.{ℕ, _≤_}
 use mathlib.Core.Path.{_≡_, refl, sym}
 use mathlib.Core.Logic.{_↔_, Iff·trans, _⊎_, inl, inr, ⊎-elim}
@@ -7,12 +7,11 @@ use mathlib.Core.List.{List, [], _∷_, _++_}
 use lib.ListN.{length, getD}
 use lib.Dec.{leb}
 use Rattle.basics.specs.declared.place.Place.the-variants.{At}
-use Rattle.basics.specs.Membership.{_∈_}
 use Rattle.basics.specs.First.{IsFirst}
 use Rattle.basics.specs.Refusals.{Test, test}
 use Rattle.basics.specs.Order.{checkingOrder}
 use Rattle.basics.proofs.First.{first-place}
-use Rattle.basics.proofs.Order.{OneApplies, one-of-three, Follows, applying-in, refused-in-order, is-distinct}
+use Rattle.basics.proofs.Order.{OneApplies, one-of-three, Follows, applying-in, refused-in-order, is-distinct, in-checking-order}
 use Rattle.file.specs.Layout.{layoutTests}
 use Rattle.file.proofs.Reasons.{layout-reasons}
 use Rattle.table.specs.Tests.{entryTests}
@@ -24,9 +23,9 @@ use Rattle.steps.proofs.Walked.{walked-applies, walked-follows}
 use Rattle.steps.proofs.Figure1.{refused-where, refused-in-range}
 use Rattle.exchange.specs.Layout.{exchangeLayout, formulas, heads, seconds, firstList, secondList, steps, table}
 use Rattle.exchange.specs.Answer.{statementOutside, obligationsOf, tests, stepVerdict}
-use Rattle.exchange.specs.Reasons.{Reason, layout-broken, entry-wrong, statement-outside, stops}
+use Rattle.exchange.specs.Reasons.{Reason, layout-broken, table-broken, statement-outside, stops}
 use Rattle.exchange.specs.Promises.{RefusedExactly}
-use Rattle.exchange.proofs.LayoutIs.{in-range}
+use Rattle.exchange.proofs.LayoutIs.{ranges-are}
 use Rattle.exchange.proofs.Answered.{answer-refused}
 
 -- ---- 9 to 15
@@ -63,8 +62,8 @@ module _ (file : List ℕ) (number p : ℕ) where
   later one = joined .1 (inr (inr one))
 
   from-reason : Reason file number p → OneApplies (tests file) number p
-  from-reason (layout-broken r) = joined .1 (inl (layout-reasons exchangeLayout file (in-range file) number p .0 r))
-  from-reason (entry-wrong r) = joined .1 (inr (inl (entry-reasons (heads file) (seconds file) number p .0 r)))
+  from-reason (layout-broken r) = joined .1 (inl (layout-reasons exchangeLayout file (ranges-are file) number p .0 r))
+  from-reason (table-broken r) = joined .1 (inr (inl (entry-reasons (heads file) (seconds file) number p .0 r)))
   from-reason (statement-outside n is) = later (inl (sym n, seven .1 is))
   from-reason (stops s) = later (inr (walked-applies (stepVerdict file) number p .1 (walk-stops file number p .1 s)))
 
@@ -74,8 +73,8 @@ module _ (file : List ℕ) (number p : ℕ) where
 
   to-reason : OneApplies (tests file) number p → Reason file number p
   to-reason one =
-      ⊎-elim (λ h. layout-broken (layout-reasons exchangeLayout file (in-range file) number p .1 h))
-      (⊎-elim (λ h. entry-wrong (entry-reasons (heads file) (seconds file) number p .1 h)) from-7-reason)
+      ⊎-elim (λ h. layout-broken (layout-reasons exchangeLayout file (ranges-are file) number p .1 h))
+      (⊎-elim (λ h. table-broken (entry-reasons (heads file) (seconds file) number p .1 h)) from-7-reason)
       (joined .0 one)
 
   reasons : Reason file number p ↔ OneApplies (tests file) number p
@@ -88,9 +87,9 @@ follows file =
     let from-9 = walked-follows (stepVerdict file) range in
     inl (refl, inl (refl, inl (refl, inl (refl, inl (refl, inr (inl (refl, inr from-9)))))))
 
--- A reason's number is one of it.
-pub reason-in : (file : List ℕ) (number p : ℕ) → Reason file number p → number ∈ checkingOrder
-reason-in file number p r = applying-in checkingOrder (tests file) number p (follows file) (from-reason file number p r)
+-- A reason's number is one of it: 1 to 15.
+pub reason-range : (file : List ℕ) (number p : ℕ) → Reason file number p → (1 ≤ number) × (number ≤ 15)
+reason-range file number p r = in-checking-order number (applying-in checkingOrder (tests file) number p (follows file) (from-reason file number p r))
 
 pub refused-exactly : RefusedExactly
 refused-exactly file number p =

@@ -18,22 +18,23 @@ use Rattle.exchange.specs.declared.verdict.ExchangeVerdict.the-variants.
 use Rattle.exchange.specs.Layout.{exchangeLayout, heads, seconds, firstList, secondList}
 use Rattle.exchange.specs.Answer.{exchangeAnswer}
 use Rattle.exchange.specs.Proofs.{InRange}
-use Rattle.exchange.specs.Reasons.{Reason, layout-broken, entry-wrong, statement-outside, stops}
+use Rattle.exchange.specs.Reasons.{Reason, layout-broken, table-broken, statement-outside, stops}
 use Rattle.exchange.specs.Promises.{Small, AnswersSmall}
-use Rattle.exchange.proofs.LayoutIs.{in-range}
-use Rattle.exchange.proofs.Reasons.{stop-small, reason-in, refused-exactly}
+use Rattle.exchange.proofs.LayoutIs.{ranges-are}
+use Rattle.exchange.proofs.Reasons.{stop-small, reason-range, refused-exactly}
 
 module _ (file : List ℕ) where
   -- A reason after 2 is given of a file whose sizes are in range,
   ranges : (number p : ℕ) → FirstReason checkingOrder (Reason file) number p → 2 < number → InRange file
   ranges number p r l =
-      let two-before = before-is-lower number 2 (reason-in file number p (r .applies)) .1 (omega arith, l) in
-      settled _ (Iff·trans (Any.in-range exchangeLayout file) (in-range file)) (λ outside. r .none-before 2 0 two-before (layout-broken (size-outside refl refl outside)))
+      let (least, most) = reason-range file number p (r .applies) in
+      let two-before = before-is-lower number 2 least most .1 (omega arith, l) in
+      settled _ (Iff·trans (Any.in-range exchangeLayout file) (ranges-are file)) (λ outside. r .none-before 2 0 two-before (layout-broken (size-outside refl refl outside)))
 
   -- and a place that isn't 0 is within one of its parts.
   reason-small : (number p : ℕ) → (2 < number → InRange file) → Reason file number p → Small (Refused number p)
   reason-small number p range (layout-broken r) = let (least, most, z) = layout-small r in (omega arith, omega arith, omega arith)
-  reason-small number p range (entry-wrong r) =
+  reason-small number p range (table-broken r) =
       let (least, most, l) = entry-small (heads file) (seconds file) number p r in
       let few = range (omega arith) .few-formulas in
       (omega arith, omega arith, omega (arith, part-most exchangeLayout file 0))

@@ -1,11 +1,9 @@
--- What the exchange check answers, for every file of any bytes and length. "Answer: equal, or a refusal of the list above without 6 and 8"
--- (01), test by test. Assumes nothing.
+-- What the exchange check answers, for every file of any bytes and length. "Answer: equal, or a refusal of the list
+-- above without 6 and 8" (01), test by test. Assumes nothing.
 use Prim.Native.Nat.{ℕ}
 use mathlib.Core.List.{List, [], _∷_, _++_}
 use Rattle.basics.specs.declared.place.Place.{Place}
-use Rattle.basics.specs.declared.tested.Tested.{Tested}
-use Rattle.basics.specs.declared.tested.Tested.the-variants as Tests
-use Rattle.basics.specs.Refusals.{Test, test, firstRefusal}
+use Rattle.basics.specs.Refusals.{Test, test, firstRefusal, unlessRefused}
 use Rattle.file.specs.Layout.{layoutTests}
 use Rattle.file.specs.Outside.{outside}
 use Rattle.table.specs.Tests.{entryTests}
@@ -21,16 +19,18 @@ use Rattle.exchange.specs.Layout.{exchangeLayout, formulas, heads, secon
 abbrev pub statementOutside : List ℕ → Place
 statementOutside file = outside (formulas file) (firstList file ++ secondList file)
 
--- "The words hold a proof of each statement of the second list from the first, in order, then of each of the first from the second, one for
--- every position"; "depth starts at 1 in each proof", as in every obligation to begin with.
+-- "The words hold a proof of each statement of the second list from the first, in order, then of each of the first from
+-- the second, one for every position"; "depth starts at 1 in each proof", as `obligation` gives it.
 abbrev pub obligationsOf : List ℕ → List Obligation
 obligationsOf file = obligations (firstList file) (secondList file) ++ obligations (secondList file) (firstList file)
 
--- 9 to 15: the machine's verdict on them. "Each proof begins at the word after the last one"; places run "through all step words".
+-- 9 to 15: the machine's verdict on them. "Each proof begins at the word after the last one"; places run "through all
+-- step words".
 abbrev pub stepVerdict : List ℕ → WalkVerdict
 stepVerdict file = run (table file) (steps file) (obligationsOf file)
 
--- 1 to 15 without 6 and 8, in 01's order: 1 to 3 by the layout (file/specs/Layout.antt), 4 and 5 of the table (table/specs/Tests.antt), and the walk as the last.
+-- 1 to 15 without 6 and 8, in 01's order: 1 to 3 by the layout (file/specs/Layout.antt), 4 and 5 of the table
+-- (table/specs/Tests.antt), and the walk as the last.
 abbrev pub tests : List ℕ → List Test
 tests file =
     layoutTests exchangeLayout file
@@ -39,10 +39,5 @@ tests file =
     ∷ walked (stepVerdict file)
     ∷ []))
 
--- a refusal stands, and where no test refuses this is the answer
-abbrev pub unlessRefused : Tested → ExchangeVerdict → ExchangeVerdict
-unlessRefused Tests.Passed verdict = verdict
-unlessRefused (Tests.Refused number place) verdict = Refused number place
-
 unfoldable pub exchangeAnswer : List ℕ → ExchangeVerdict
-exchangeAnswer file = unlessRefused (firstRefusal (tests file)) Equal
+exchangeAnswer file = unlessRefused Refused (firstRefusal (tests file)) Equal

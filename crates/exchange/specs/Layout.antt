@@ -1,6 +1,6 @@
--- "Sizes F, S1, S2, N; here N may be 0 to 16,384 and each list 0 to 256. Then heads, seconds, the first list, the second list, N step words;
--- 2 × (4 + 2F + S1 + S2 + N) bytes." (01, "The exchange file") Each is read as far as a file goes, so that it is something for every file.
--- Assumes nothing.
+-- "Sizes F, S1, S2, N; here N may be 0 to 16,384 and each list 0 to 256. Then heads, seconds, the first list, the
+-- second list, N step words; 2 × (4 + 2F + S1 + S2 + N) bytes." (01, "The exchange file") Each is read as far as a file
+-- goes, so that it is something for every file. Assumes nothing.
 use Prim.Native.Nat.{ℕ, _+_, _*_}
 use mathlib.Core.Path.{_≡_}
 use mathlib.Core.List.{List, [], _∷_}
@@ -56,7 +56,8 @@ size file = Any.bytes exchangeLayout file
 abbrev pub mostBytes : ℕ
 mostBytes = Any.mostBytes exchangeLayout
 
--- The same in 01's numbers: where each array stands, and "2 × (4 + 2F + S1 + S2 + N) bytes", at most 50,184. Proved in proofs/LayoutIs.antt.
+-- The same in 01's numbers: where each array stands, and "2 × (4 + 2F + S1 + S2 + N) bytes", at most 50,184. Proved in
+-- proofs/LayoutIs.antt.
 pub record LayoutIs (file : List ℕ) : Type 0 where
   pub heads-at : heads file ≡ part file 4 (formulas file)
   pub seconds-at : seconds file ≡ part file (4 + formulas file) (formulas file)

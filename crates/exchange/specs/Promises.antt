@@ -1,4 +1,5 @@
--- What is promised of the answers: demand 3 for exchange files. Each is proved in proofs/ under its name in small letters. Assumes nothing.
+-- What is promised of the answers: demand 3 for exchange files. Each is proved in proofs/ under its name in small
+-- letters. Assumes nothing.
 use Prim.Native.Nat.{ℕ, suc, _+_, _≤_, _<_}
 use mathlib.Core.Path.{_≡_}
 use mathlib.Core.Logic.{_↔_}
@@ -22,7 +23,8 @@ EqualExactly = (file : List ℕ) → exchangeAnswer file ≡ Equal ↔ (Keeps fi
 abbrev pub EqualOnlyInForce : Type 0
 EqualOnlyInForce = (file : List ℕ) → exchangeAnswer file ≡ Equal → EqualInForce (firstStatements file) (secondStatements file)
 
--- Every other file, of any bytes and length, is refused by the first reason in the checking order that applies, with its place.
+-- Every other file, of any bytes and length, is refused by the first reason in the checking order that applies, with
+-- its place.
 abbrev pub RefusedExactly : Type 0
 RefusedExactly = (file : List ℕ) (number p : ℕ) → exchangeAnswer file ≡ Refused number p ↔ FirstReason checkingOrder (Reason file) number p
 
@@ -31,8 +33,8 @@ abbrev pub EmptyListsEqual : Type 0
 EmptyListsEqual =
     (file : List ℕ) → Keeps file → firstCount file ≡ 0 → secondCount file ≡ 0 → stepCount file ≡ 0 → exchangeAnswer file ≡ Equal
 
--- "one for every position, so a statement that stands twice is proved twice" (01): `EqualExactly` has a derivation for every position. Each has a
--- word at least, so a file with fewer steps than positions is never found equal.
+-- "one for every position, so a statement that stands twice is proved twice" (01): `EqualExactly` has a derivation for
+-- every position. Each has a word at least, so a file with fewer steps than positions is never found equal.
 abbrev pub ProvedAtEachPosition : Type 0
 ProvedAtEachPosition = (file : List ℕ) → exchangeAnswer file ≡ Equal → firstCount file + secondCount file ≤ stepCount file
 

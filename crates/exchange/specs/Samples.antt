@@ -1,5 +1,5 @@
--- Exchange files of document 01, K to N, and what the order of tests, the two directions and the places mean. Proved in proofs/Samples.antt, by
--- computation. Assumes nothing.
+-- Exchange files of document 01, K to N, and what the order of tests, the two directions and the places mean. Proved in
+-- proofs/Samples.antt, by computation. Assumes nothing.
 use Prim.Native.Nat.{ℕ}
 use mathlib.Core.Path.{_≡_}
 use mathlib.Core.List.{List, [], _∷_, _++_, map}
@@ -19,26 +19,27 @@ row words answer = record { words = words; answer = answer }
 
 -- "Sizes F, S1, S2, N .. Then heads, seconds, the first list, the second list, N step words"
 abbrev pub exchangeOf : List ℕ → List ℕ → List ℕ → List ℕ → List ℕ → List ℕ
-exchangeOf heads seconds some second steps =
-    length heads ∷ length some ∷ length second ∷ length steps ∷ heads ++ seconds ++ some ++ second ++ steps
+exchangeOf heads seconds first second steps =
+    length heads ∷ length first ∷ length second ∷ length steps ∷ heads ++ seconds ++ first ++ second ++ steps
 
 abbrev pub Hold : List Sample → Type 0
 Hold samples = map (λ r. exchangeAnswer (fileOf (r .words))) samples ≡ map (λ r. r .answer) samples
 
--- "K m, exchange, table atom 0, atom 1, their and (head 12288, second 1): lists [2] and [0, 1], steps 24578 0 24578 1 20480 0 1: equal."
+-- "K m, exchange, table atom 0, atom 1, their and (head 12288, second 1): lists [2] and [0, 1], steps 24578 0 24578 1
+-- 20480 0 1: equal."
 abbrev pub overK : List ℕ → List ℕ → List ℕ → List ℕ
-overK some second steps = exchangeOf (0 ∷ 1 ∷ 12288 ∷ []) (0 ∷ 0 ∷ 1 ∷ []) some second steps
+overK first second steps = exchangeOf (0 ∷ 1 ∷ 12288 ∷ []) (0 ∷ 0 ∷ 1 ∷ []) first second steps
 
 abbrev pub K : List ℕ
 K = overK (2 ∷ []) (0 ∷ 1 ∷ []) (24578 ∷ 0 ∷ 24578 ∷ 1 ∷ 20480 ∷ 0 ∷ 1 ∷ [])
 
 -- a table of atom 0
 abbrev pub overAtom : List ℕ → List ℕ → List ℕ → List ℕ
-overAtom some second steps = exchangeOf (0 ∷ []) (0 ∷ []) some second steps
+overAtom first second steps = exchangeOf (0 ∷ []) (0 ∷ []) first second steps
 
--- K. "L: table of atom 0, lists [] and [0], step 0: refused 12 at 0. M: a table of entries 0 and 0: refused 5 at 1. N: first entry 20487 with
--- second 0: refused 4 at 0." "Two empty lists with N = 0 are equal." "a statement that stands twice is proved twice": [0, 0] and [0] with three proofs,
--- equal, and with two.
+-- K. "L: table of atom 0, lists [] and [0], step 0: refused 12 at 0. M: a table of entries 0 and 0: refused 5 at 1. N:
+-- first entry 20487 with second 0: refused 4 at 0." "Two empty lists with N = 0 are equal." "a statement that stands
+-- twice is proved twice": [0, 0] and [0] with three proofs, equal, and with two.
 abbrev pub rows : List Sample
 rows =
     row K Equal
@@ -53,9 +54,10 @@ rows =
 abbrev pub Samples : Type 0
 Samples = Hold rows
 
--- Where two tests apply, the first counts, and no 6 nor 8 is among them. In order: no byte at all; F is 0, and the length is wrong; 257 statements
--- in the first list, and in the second; 16,385 steps; a word too many; a repeated entry at 1 and a wrong one at 2; and 7 through both lists: at 1 in the first, at
--- 1 + 0 and 1 + 1 in the second, and in both, before any step.
+-- Where two tests apply, the first counts, and no 6 nor 8 is among them. In order: no byte at all; F is 0, and the
+-- length is wrong; 257 statements in the first list, and in the second; 16,385 steps; a word too many; a repeated entry
+-- at 1 and a wrong one at 2; and 7 through both lists: at 1 in the first, at 1 + 0 and 1 + 1 in the second, and in
+-- both, before any step.
 abbrev pub order : List Sample
 order =
     row [] (Refused 1 0)
@@ -74,9 +76,9 @@ order =
 abbrev pub Order : Type 0
 Order = Hold order
 
--- The two directions, and places through all step words. In order, over K's table: only the second list is proved; only the first, which is out of
--- its turn; the first list is proved from itself; a word too many between two proofs is the next one's first; one after the last; the words end
--- inside a proof; and no word at all, where three proofs are due.
+-- The two directions, and places through all step words. In order, over K's table: only the second list is proved; only
+-- the first, which is out of its turn; the first list is proved from itself; a word too many between two proofs is the
+-- next one's first; one after the last; the words end inside a proof; and no word at all, where three proofs are due.
 abbrev pub directions : List Sample
 directions =
     row (overK (2 ∷ []) (0 ∷ 1 ∷ []) (24578 ∷ 0 ∷ 24578 ∷ 1 ∷ [])) (Refused 9 4)
@@ -91,9 +93,9 @@ directions =
 abbrev pub Directions : Type 0
 Directions = Hold directions
 
--- "Depth starts at 1 in each proof": three proofs, each 512 deep, the second from the same list as the first and the third from the other; then the
--- second is 513 deep, and the third. The table is atom 0, and atom 0 and atom 0; the lists are [1] and [1, 1]; a proof is and left n times, then and
--- right and init twice, n + 2 deep.
+-- "Depth starts at 1 in each proof": three proofs, each 512 deep, the second from the same list as the first and the
+-- third from the other; then the second is 513 deep, and the third. The table is atom 0, and atom 0 and atom 0; the
+-- lists are [1] and [1, 1]; a proof is and left n times, then and right and init twice, n + 2 deep.
 abbrev pub deep : ℕ → List ℕ
 deep n = replicate n 24577 ++ 20480 ∷ 0 ∷ 0 ∷ []
 

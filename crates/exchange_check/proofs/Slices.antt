@@ -20,7 +20,8 @@ use Rattle.exchange.proofs.Lengths.{sized-table}
 pub table-sized : (file : List ℕ) → Sized file → {hs ss : List ℕ} → hs ≡ heads file → ss ≡ seconds file → SizedTable hs ss
 table-sized file s eh es = rw eh (rw es (sized-table file s))
 
--- By the sizes that the code read: from one place to another, the last of them within the words. The two lists stand one after the other.
+-- By the sizes that the code read: from one place to another, the last of them within the words. The two lists stand
+-- one after the other.
 pub record Slices (file words : List ℕ) (F S1 S2 N : ℕ) : Type 0 where
   pub end-within : 4 + F + F + S1 + S2 + N ≤ length words
   pub heads-slice : take (4 + F - 4) (drop 4 words) ≡ heads file

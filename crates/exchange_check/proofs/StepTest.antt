@@ -1,5 +1,5 @@
--- 9 to 15 of an exchange file as the code makes them: `check_proofs` of the second list from the first, then, in the tail of the words, of the
--- first from the second; and 15. Assumes nothing.
+-- 9 to 15 of an exchange file as the code makes them: `check_proofs` of the second list from the first, then, in the
+-- tail of the words, of the first from the second; and 15. Assumes nothing.
 use Prim.Native.Nat.{ℕ, _+_, _-_, _≤_, _<_}
 use native.Mathlib.Nat.{add-comm, zero-add}
 use native.Mathlib.Omega.{arith}

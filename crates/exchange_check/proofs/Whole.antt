@@ -4,15 +4,15 @@ use mathlib.Core.Path.{_≡_, sym, ap, _∙_}
 use mathlib.Core.List.{List, [], _∷_, _++_}
 use lib.ListN.{length, drop}
 use Rattle.basics.specs.declared.tested.Tested.{Tested}
-use Rattle.basics.specs.declared.tested.Tested.the-variants as Tests
-use Rattle.basics.specs.Refusals.{Test, firstRefusal}
+use Rattle.basics.specs.declared.tested.Tested.the-variants as Outcome
+use Rattle.basics.specs.Refusals.{Test, firstRefusal, unlessRefused}
 use Rattle.basics.proofs.Refusals.{joined-refused, joined-passed}
 use Rattle.file.specs.Layout.{layoutTests}
-use Rattle.file.proofs.LayoutLaws.{passed-to-3, sized-most}
+use Rattle.file.proofs.LayoutLaws.{passed-to-three, sized-most}
 use Rattle.exchange.specs.declared.verdict.ExchangeVerdict.{ExchangeVerdict}
 use Rattle.exchange.specs.declared.verdict.ExchangeVerdict.the-variants.{Equal, Refused}
 use Rattle.exchange.specs.Layout.{exchangeLayout, mostBytes, heads, seconds, firstList, secondList, steps}
-use Rattle.exchange.specs.Answer.{tests, unlessRefused, exchangeAnswer}
+use Rattle.exchange.specs.Answer.{tests, exchangeAnswer}
 use Rattle.exchange.specs.Proofs.{Sized}
 use Rattle.exchange.proofs.LayoutIs.{bounded, sized}
 use Rattle.exchange.proofs.Lengths.{length-heads}
@@ -26,14 +26,14 @@ module _ (file : List ℕ) where
   from-4 = drop 3 (tests file)
 
   -- A refusal by 1 to 3 is the answer.
-  pub layout-refused : {t : Tested} {number p : ℕ} → t ≡ firstRefusal (layoutTests exchangeLayout file) → t ≡ Tests.Refused number p
+  pub layout-refused : {t : Tested} {number p : ℕ} → t ≡ firstRefusal (layoutTests exchangeLayout file) → t ≡ Outcome.Refused number p
       → Refused number p ≡ exchangeAnswer file
   layout-refused {t} {number} {p} answered e =
       sym (answer-refused file number p .1 (joined-refused (layoutTests exchangeLayout file) from-4 (sym answered ∙ e)))
 
   -- A file that they let pass has the sizes and the length that the layout asks for,
-  pub layout-passed : {t : Tested} → t ≡ firstRefusal (layoutTests exchangeLayout file) → t ≡ Tests.Passed → Sized file
-  layout-passed answered e = sized file .0 (passed-to-3 exchangeLayout file .0 (sym answered ∙ e))
+  pub layout-passed : {t : Tested} → t ≡ firstRefusal (layoutTests exchangeLayout file) → t ≡ Outcome.Passed → Sized file
+  layout-passed answered e = sized file .0 (passed-to-three exchangeLayout file .0 (sym answered ∙ e))
 
   -- so it is no longer than the longest exchange file.
   pub at-most : Sized file → length file ≤ mostBytes
@@ -43,20 +43,20 @@ module _ (file : List ℕ) where
 
   module _ (s : Sized file) where
     -- 4 to 15 are left of the tests
-    tests-left :
+    tests-from-4 :
         firstRefusal
         (arrayTests (heads file) (seconds file) (firstList file ++ secondList file)
         ++ (stepTest (heads file) (seconds file) (firstList file) (secondList file) (steps file) ∷ []))
         ≡ firstRefusal (tests file)
-    tests-left =
-        let passed = passed-to-3 exchangeLayout file .1 (sized file .1 s) in
+    tests-from-4 =
+        let passed = passed-to-three exchangeLayout file .1 (sized file .1 s) in
         rw (length-heads file s) (sym (joined-passed (layoutTests exchangeLayout file) from-4 passed))
 
     answers :
         arraysAnswer (heads file) (seconds file) (firstList file ++ secondList file) (firstList file) (secondList file) (steps file)
         ≡ exchangeAnswer file
     unfolding exchangeAnswer
-    answers = ap (λ (t : Tested). unlessRefused t Equal) tests-left
+    answers = ap (λ (t : Tested). unlessRefused Refused t Equal) tests-from-4
 
     -- so what the code answers over the parts that it took
     pub whole :

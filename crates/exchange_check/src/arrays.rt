@@ -8,7 +8,8 @@ use basics::tested::Tested;
 use file::numbers::first_outside;
 use table_check::check::check_table;
 
-// 4, 5 and 7, over a table of a size that 2 allows. "Places for 7 run through both lists": these are the two, one after the other.
+// 4, 5 and 7, over a table of a size that 2 allows. "Places for 7 run through both lists": these are the two, one after
+// the other.
 pub(crate) fn check_arrays(heads: &[u16], seconds: &[u16], lists: &[u16]) -> Tested
     requires { ⌜ SizedTable (now heads) (now seconds) ⌝ }
     ensures { λ r. ⌜ r ≡ firstRefusal (arrayTests (now (heads .entry)) (now (seconds .entry)) (now (lists .entry))) ⌝ }

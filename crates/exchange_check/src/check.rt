@@ -9,7 +9,7 @@ ghost use Rattle.exchange_check.specs.Parts.{arraysAnswer};
 use crate::arrays::check_arrays;
 use crate::layout::MOST_WORDS;
 use crate::layout::check_layout;
-use crate::proofs::check_steps;
+use crate::step_tests::check_steps;
 use basics::tested::Tested;
 use exchange::verdict::ExchangeVerdict;
 use file::words::FEW_WORDS;
@@ -60,8 +60,8 @@ fn check_sized(file: &[u8], words: &mut [u16]) -> ExchangeVerdict
     )
 }
 
-// The answer for a file of any bytes and length: equal exactly where it carries all proofs (`EqualExactly`), and so only for lists equal in force.
-// Nothing is lent but the file, which is only read.
+// The answer for a file of any bytes and length: equal exactly where it carries all proofs (`EqualExactly`), and so
+// only for lists equal in force. Nothing is lent but the file, which is only read.
 pub fn check_exchange(file: &[u8]) -> ExchangeVerdict
     ensures { λ r. ⌜ r ≡ exchangeAnswer (now (file .entry)) ⌝ }
 {

@@ -9,13 +9,13 @@ use basics::limits::MOST_FORMULAS;
 use basics::limits::MOST_STATEMENTS;
 use basics::limits::MOST_STEPS;
 use basics::tested::Tested;
-use file::numbers::fits;
+use file::numbers::fits_and;
 use file::words::word_at;
 
 // "2 × (4 + 2F + S1 + S2 + N) bytes" (01), 50,184 of them at most.
-pub const MOST_WORDS: usize = 4 + 2 * MOST_FORMULAS + 2 * MOST_STATEMENTS + MOST_STEPS;
+pub(crate) const MOST_WORDS: usize = 4 + 2 * MOST_FORMULAS + 2 * MOST_STATEMENTS + MOST_STEPS;
 
-pub const MOST_BYTES: usize = 2 * MOST_WORDS;
+const MOST_BYTES: usize = 2 * MOST_WORDS;
 
 // As `record_check::layout::file_buffer`, for the longest exchange file.
 pub fn file_buffer() -> [u8; MOST_BYTES + 1]
@@ -32,10 +32,10 @@ pub(crate) fn check_layout(file: &[u8]) -> Tested
     let first = word_at(file, 1) as usize;
     let second = word_at(file, 2) as usize;
     let steps = word_at(file, 3) as usize;
-    let steps_fit = fits(0, steps, MOST_STEPS, true);
-    let second_fit = fits(0, second, MOST_STATEMENTS, steps_fit);
-    let lists_fit = fits(0, first, MOST_STATEMENTS, second_fit);
-    let fit = fits(1, formulas, MOST_FORMULAS, lists_fit);
+    let steps_fit = fits_and(0, steps, MOST_STEPS, true);
+    let second_fit = fits_and(0, second, MOST_STATEMENTS, steps_fit);
+    let lists_fit = fits_and(0, first, MOST_STATEMENTS, second_fit);
+    let fit = fits_and(1, formulas, MOST_FORMULAS, lists_fit);
     file::layout::check_layout(
         file,
         8,

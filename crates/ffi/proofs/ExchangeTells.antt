@@ -1,4 +1,5 @@
--- The number of an exchange file's answer (specs/ExchangeCode.antt): what it is in each case, and that it tells answers apart. Assumes nothing.
+-- The number of an exchange file's answer (specs/ExchangeCode.antt): what it is in each case, and that it tells answers
+-- apart. Assumes nothing.
 use Prim.Native.Nat.{ℕ, _≤_}
 use native.Mathlib.Omega.{arith}
 use mathlib.Core.Path.{_≡_, refl, sym, ap, ap₂, subst}

@@ -1,4 +1,5 @@
--- The code of a refusal (specs/RefusalCode.antt): what its halves are, and that it tells refusals apart. Assumes nothing.
+-- The code of a refusal (specs/RefusalCode.antt): what its halves are, and that it tells refusals apart. Assumes
+-- nothing.
 use Prim.Native.Nat.{ℕ, _/_, _%_, _≤_}
 use native.Mathlib.Omega.{arith}
 use mathlib.Core.Path.{_≡_}

@@ -1,4 +1,5 @@
--- The number of a record's answer (specs/Code.antt): what it is in each case, and that it tells answers apart. Assumes nothing.
+-- The number of a record's answer (specs/Code.antt): what it is in each case, and that it tells answers apart. Assumes
+-- nothing.
 use Prim.Native.Nat.{ℕ, _≤_}
 use native.Mathlib.Omega.{arith}
 use mathlib.Core.Path.{_≡_, sym, ap, ap₂, subst}

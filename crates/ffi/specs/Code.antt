@@ -1,5 +1,5 @@
--- An answer as one number, for callers in C and Rust: the count of a grant as it is, a refusal as `refusalCode` has it. Proved in
--- proofs/Tells.antt. Assumes nothing.
+-- An answer as one number, for callers in C and Rust: the count of a grant as it is, a refusal as `refusalCode` has it.
+-- Proved in proofs/Tells.antt. Assumes nothing.
 use Prim.Native.Nat.{ℕ, _/_, _%_}
 use mathlib.Core.Path.{_≡_}
 use Rattle.record.specs.declared.verdict.RecordVerdict.{RecordVerdict}
@@ -19,6 +19,7 @@ Halves (Refused number place) high low = RefusalHalves number place high low
 abbrev pub CodeHalves : Type 0
 CodeHalves = (v : RecordVerdict) → Small v → Halves v (answerCode v / half) (answerCode v % half)
 
--- Two answers within their bounds that have the same code are the same answer: a grant is no refusal, and number and place are told apart.
+-- Two answers within their bounds that have the same code are the same answer: a grant is no refusal, and number and
+-- place are told apart.
 abbrev pub CodeTells : Type 0
 CodeTells = (v w : RecordVerdict) → Small v → Small w → answerCode v ≡ answerCode w → v ≡ w

@@ -1,5 +1,6 @@
-// The checks for C and Rust. `include/wethrynda.h` declares them for C, and the package in `rust/` wraps them for Rust. Nothing checks these
-// declarations against this file, so there are two functions here, on byte and word slices, and they ask nothing of their caller.
+// The checks for C and Rust. `include/wethrynda.h` declares them for C, and the package in `rust/` wraps them for Rust.
+// Nothing checks these declarations against this file, so there are two functions here, on byte and word slices, and
+// they ask nothing of their caller.
 ghost use Prim.Native.Nat.{_≤_};
 ghost use mathlib.Core.Path.{_≡_};
 ghost use lib.ListN.{length};
@@ -47,8 +48,9 @@ fn exchange_code(verdict: ExchangeVerdict) -> u64
     }
 }
 
-// The check of a record, as one number: the count of signers, or a refusal's number × 2^32 + its place. What is lent is left as `check_record`
-// leaves it: signers from the start of the list on a grant, nothing changed on a refusal. In C a slice is a pointer and then a length.
+// The check of a record, as one number: the count of signers, or a refusal's number × 2^32 + its place. What is lent is
+// left as `check_record` leaves it: signers from the start of the list on a grant, nothing changed on a refusal. In C a
+// slice is a pointer and then a length.
 #[no_mangle]
 pub extern "C" fn wethrynda_check_record(file: &[u8], signers: &mut [u16]) -> u64
     ensures { λ r. ⌜ r ≡ answerCode (recordAnswer (now (file .entry)) (length (now (signers .entry)))) ⌝ }
@@ -58,7 +60,8 @@ pub extern "C" fn wethrynda_check_record(file: &[u8], signers: &mut [u16]) -> u6
     answer_code(verdict)
 }
 
-// The check of an exchange file, as one number: 0 for equal, or a refusal's number × 2^32 + its place. Nothing but the file is lent.
+// The check of an exchange file, as one number: 0 for equal, or a refusal's number × 2^32 + its place. Nothing but the
+// file is lent.
 #[no_mangle]
 pub extern "C" fn wethrynda_check_exchange(file: &[u8]) -> u64
     ensures { λ r. ⌜ r ≡ exchangeCode (exchangeAnswer (now (file .entry))) ⌝ }

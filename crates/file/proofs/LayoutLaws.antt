@@ -1,5 +1,6 @@
--- Laws of any layout (specs/Layout.antt): what 1 to 3 ask for; each part has its length where they pass, and is what code takes out of the words that it
--- has read; the longest file, and that a longer one has the answer of its first bytes. Assumes nothing.
+-- Laws of any layout (specs/Layout.antt): what 1 to 3 ask for; each part has its length where they pass, and is what
+-- code takes out of the words that it has read; the longest file, and that a longer one has the answer of its first
+-- bytes. Assumes nothing.
 use Prim.Native.Nat.{ℕ, zero, suc, _+_, _-_, _*_, _≤_, _<_}
 use native.Mathlib.Omega.{arith}
 use mathlib.Core.Bool.{Bool, true, false, not, false≢true}
@@ -9,7 +10,7 @@ use mathlib.Core.List.{List, [], _∷_, _++_, map}
 use lib.ListN.{length, getD, take, drop}
 use lib.Seq.{length-take-le}
 use borrow.Author.Tests.{le-ltb, ne-eqb}
-use Rattle.basics.specs.declared.tested.Tested.the-variants.{Passed, Refused}
+use Rattle.basics.specs.declared.tested.Tested.the-variants.{Refused}
 use Rattle.basics.specs.Choice.{pick}
 use Rattle.basics.specs.Refusals.{Test, firstRefusal, NoneApplies}
 use Rattle.basics.specs.Written.{written}
@@ -18,7 +19,7 @@ use Rattle.basics.proofs.Refusals.{applies-at-0, goes-on-at-0, passed-by-all}
 use Rattle.basics.proofs.Choice.{both-true}
 use Rattle.basics.proofs.Written.{written-length}
 use Rattle.file.specs.Words.{fileWords, wordAt}
-use Rattle.file.specs.Layout.{Field, range, unranged, Layout, plus, lengths, begins, partOf, bytes, leastBytes, most, mostBytes, fits, allFit, inRange, layoutTests, Fits, AllFit, Sized, isSize, allSizes, Bounded}
+use Rattle.file.specs.Layout.{Field, range, unranged, Layout, plus, lengths, begins, partOf, bytes, leastBytes, most, mostBytes, fits, allFit, inRange, layoutTests, Fits, AllFit, SizedBy, isSize, allSizes, Bounded, PassedToThree, PartsWhole, LongerRefused}
 use Rattle.file.proofs.FileWords.{half-as-many, word-at-prefix}
 use Rattle.file.proofs.Parts.{part-at-most, part-whole, slice}
 
@@ -56,7 +57,7 @@ module _ (layout : Layout) (file : List ℕ) where
   some-bytes = omega (arith, plus-least (length (layout .fields)) (lengths layout file))
 
   -- None of 1 to 3 applies exactly when the fields are in range and the length is theirs,
-  pub none-to-3 : NoneApplies (layoutTests layout file) ↔ Sized layout file
+  pub none-to-3 : NoneApplies (layoutTests layout file) ↔ SizedBy layout file
   none-to-3 =
       let long = at0-nowhere _ (not-less (length file) (leastBytes layout)) in
       let fit = at0-nowhere _ (not-other (inRange layout file) in-range) in
@@ -65,15 +66,11 @@ module _ (layout : Layout) (file : List ℕ) where
         λ s. let e = s .length-is in (long .1 (omega (arith, some-bytes)), (fit .1 (s .in-range), (is .1 e, tt))),
       )
 
-  -- and so they let it pass.
-  pub passed-to-3 : firstRefusal (layoutTests layout file) ≡ Passed ↔ Sized layout file
-  passed-to-3 = Iff·trans (passed-by-all (layoutTests layout file)) none-to-3
-
   -- A part of any file is at most as long as its field says.
   pub part-most : (i : ℕ) → length (partOf layout file i) ≤ getD (lengths layout file) i 0
   part-most i = part-at-most file (begins layout file i) (getD (lengths layout file) i 0)
 
-  module _ (s : Sized layout file) where
+  module _ (s : SizedBy layout file) where
     -- So many words the file has,
     pub length-words : 2 * length (fileWords file) ≡ bytes layout file
     length-words = let is = s .length-is in omega (arith, half-as-many file)
@@ -83,11 +80,11 @@ module _ (layout : Layout) (file : List ℕ) where
     part-within i = omega (arith, length-words, plus-part (length (layout .fields)) (lengths layout file) i)
 
     -- so it has its length.
-    pub length-part : (i : ℕ) → length (partOf layout file i) ≡ getD (lengths layout file) i 0
+    length-part : (i : ℕ) → length (partOf layout file i) ≡ getD (lengths layout file) i 0
     length-part i = part-whole file (begins layout file i) (getD (lengths layout file) i 0) (part-within i)
 
-    -- The code reads the words into a list that has room for them. What it takes from one place to another is part i, where these are the places
-    -- at which the part begins and ends; and the words go so far.
+    -- The code reads the words into a list that has room for them. What it takes from one place to another is part i,
+    -- where these are the places at which the part begins and ends; and the words go so far.
     module _ (old : List ℕ) {words : List ℕ} (read : words ≡ written old (fileWords file)) (room : length file ≤ 2 * length old) where
       has-room : length (fileWords file) ≤ length old
       has-room = omega (arith, half-as-many file)
@@ -98,6 +95,12 @@ module _ (layout : Layout) (file : List ℕ) where
 
       pub slice-within : (i : ℕ) → begins layout file i + getD (lengths layout file) i 0 ≤ length words
       slice-within i = rw read (omega (arith, written-length old (fileWords file), has-room, part-within i))
+
+pub passed-to-three : PassedToThree
+passed-to-three layout file = Iff·trans (passed-by-all (layoutTests layout file)) (none-to-3 layout file)
+
+pub parts-whole : PartsWhole
+parts-whole = length-part
 
 -- ---- the longest file
 
@@ -127,7 +130,7 @@ module _ (layout : Layout) (bounded : Bounded layout) where
       let few = plus-most (layout .fields) file all (layout .parts) (length (layout .fields)) (length (layout .fields)) bounded (omega arith) in omega arith
 
   -- A file that 1 to 3 let pass is no longer than the longest.
-  pub sized-most : (file : List ℕ) → Sized layout file → length file ≤ mostBytes layout
+  pub sized-most : (file : List ℕ) → SizedBy layout file → length file ≤ mostBytes layout
   sized-most file s = let is = s .length-is in omega (arith, at-most-bytes file (s .in-range))
 
   least-most : leastBytes layout ≤ mostBytes layout
@@ -149,12 +152,15 @@ module _ (layout : Layout) (bounded : Bounded layout) where
   fit-prefix [] n file i l = refl
   fit-prefix (f ∷ fs) n file i l = cc (word-at-prefix n file i (omega arith), fit-prefix fs n file (suc i) (omega arith))
 
-  -- So it has the answer of its first bytes, one more than the longest file has, whatever tests follow.
-  pub longer : (file : List ℕ) → mostBytes layout < length file → (rest other : List Test)
-      → firstRefusal (layoutTests layout file ++ rest) ≡ firstRefusal (layoutTests layout (take (suc (mostBytes layout)) file) ++ other)
+  longer : (file : List ℕ) → mostBytes layout < length file → (rest other : List Test)
+      → firstRefusal (layoutTests layout file ++ rest)
+      ≡ firstRefusal (layoutTests layout (take (suc (mostBytes layout)) file) ++ other)
   longer file long rest other =
       let n : ℕ = suc (mostBytes layout) in
       let front : List ℕ = take n file in
       let is : length front ≡ n = length-take-le n file (omega arith) in
       let same = fit-prefix (layout .fields) n file 0 (omega (arith, least-most)) in
       too-long file (inRange layout file) refl long rest ∙ sym (too-long front (inRange layout file) same (omega arith) other)
+
+pub longer-refused : LongerRefused
+longer-refused = longer

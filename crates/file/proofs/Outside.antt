@@ -1,4 +1,5 @@
--- The first number of F or more (specs/Outside.antt, `outside`), as a loop finds it, and where there is none. Assumes nothing.
+-- The first number of F or more (specs/Outside.antt, `outside`), as a loop finds it, and where there is none. Assumes
+-- nothing.
 use Prim.Native.Nat.{ℕ, _<_}
 use mathlib.Core.Bool.{true}
 use mathlib.Core.Path.{_≡_, sym, ap, _∙_}

@@ -1,5 +1,5 @@
--- Parts of a file's words (specs/Words.antt, `part`): how long they are, two that join, and those that code takes out of the words that it
--- has read. Assumes nothing.
+-- Parts of a file's words (specs/Words.antt, `part`): how long they are, two that join, and those that code takes out
+-- of the words that it has read. Assumes nothing.
 use Prim.Native.Nat.{ℕ, _+_, _-_, _≤_}
 use native.Mathlib.Omega.{arith}
 use mathlib.Core.Path.{_≡_, ap, _∙_}
@@ -24,7 +24,8 @@ module _ (file : List ℕ) where
   part-joined from m n =
       take-add m n (drop from (fileWords file)) ∙ ap (λ (r : List ℕ). part file from m ++ take n r) (drop-drop m from (fileWords file))
 
--- The code reads the words into a list that has room for them. What it takes from one place to another is that part of the file.
+-- The code reads the words into a list that has room for them. What it takes from one place to another is that part of
+-- the file.
 module _ (file old : List ℕ) {words : List ℕ} (read : words ≡ written old (fileWords file)) (room : length (fileWords file) ≤ length old) where
   pub slice : (from to at count : ℕ) → from ≡ at → to ≡ at + count → at + count ≤ length (fileWords file)
       → take (to - from) (drop from words) ≡ part file at count

@@ -1,14 +1,17 @@
--- A layout is data: the fields that come first, a word each, with their ranges; then the parts, each as long as one of the fields says. From it
--- follow the length of a file, tests 1 to 3, and where each part stands. A record, an exchange file, and what later requests bring have one value of it
--- each. Its laws, for any layout, are in proofs/LayoutLaws.antt. Assumes nothing.
-use Prim.Native.Nat.{ℕ, suc, _+_, _*_, _≤_}
+-- A layout is data: the fields that come first, a word each, with their ranges; then the parts, each as long as one of
+-- the fields says. From it follow the length of a file, tests 1 to 3, and where each part stands. A record, an exchange
+-- file, and what later requests bring have one value of it each. Its laws, for any layout, are in
+-- proofs/LayoutLaws.antt. Assumes nothing.
+use Prim.Native.Nat.{ℕ, suc, _+_, _*_, _≤_, _<_}
 use mathlib.Core.Bool.{Bool, true, false, not}
 use mathlib.Core.Path.{_≡_}
-use mathlib.Core.List.{List, [], _∷_, map}
+use mathlib.Core.Logic.{_↔_}
+use mathlib.Core.List.{List, [], _∷_, _++_, map}
 use lib.ListN.{length, getD, take}
 use lib.Dec.{eqb, ltb, leb}
 use Rattle.basics.specs.Choice.{both}
-use Rattle.basics.specs.Refusals.{Test, test, at0}
+use Rattle.basics.specs.declared.tested.Tested.the-variants.{Passed}
+use Rattle.basics.specs.Refusals.{Test, test, at0, firstRefusal}
 use Rattle.file.specs.Words.{wordAt, part}
 
 -- A field: a size with its range, or a word that test 2 doesn't look at.
@@ -63,7 +66,7 @@ mostBytes layout = 2 * wordsOf layout (map (λ i. most (getD (layout .fields) i 
 
 -- ---- tests 1 to 3
 
--- whether a word is what its field allows, and the words from place i on
+-- whether a word is what its field allows; the words of the file from word i on, field by field
 abbrev pub fits : Field → ℕ → Bool
 fits (range l m) n = both (leb l n) (leb n m)
 fits unranged n = true
@@ -75,12 +78,13 @@ allFit (f ∷ fs) file i = both (fits f (wordAt file i)) (allFit fs file (suc i)
 abbrev pub inRange : Layout → List ℕ → Bool
 inRange layout file = allFit (layout .fields) file 0
 
--- by the least number of bytes, whether the fields are in range, and the length that they ask for: "1. The file has fewer than 8 bytes (place 0). 2. F, S
--- or N is outside its range (place 0). 3. The length isn't the one above (place 0)." (01)
+-- the three tests by what they ask: the least number of bytes, whether the fields are in range, and their length
 abbrev pub testsBy : List ℕ → ℕ → Bool → ℕ → List Test
 testsBy file least fit size =
     test 1 (at0 (ltb (length file) least)) ∷ test 2 (at0 (not fit)) ∷ test 3 (at0 (not (eqb (length file) size))) ∷ []
 
+-- "1. The file has fewer than 8 bytes (place 0). 2. F, S or N is outside its range (place 0). 3. The length isn't the
+-- one above (place 0)." (01; a record and an exchange file have four fields, and so 8 bytes at least)
 abbrev pub layoutTests : Layout → List ℕ → List Test
 layoutTests layout file = testsBy file (leastBytes layout) (inRange layout file) (bytes layout file)
 
@@ -95,7 +99,7 @@ AllFit [] file i = Unit
 AllFit (f ∷ fs) file i = Fits f (wordAt file i) × AllFit fs file (suc i)
 
 -- The fields are in their ranges, and the length is the one that they ask for.
-pub record Sized (layout : Layout) (file : List ℕ) : Type 0 where
+pub record SizedBy (layout : Layout) (file : List ℕ) : Type 0 where
   pub in-range : AllFit (layout .fields) file 0
   pub length-is : length file ≡ bytes layout file
 
@@ -110,3 +114,23 @@ allSizes fields (p ∷ ps) = both (isSize (getD fields p unranged)) (allSizes fi
 
 abbrev pub Bounded : Layout → Type 0
 Bounded layout = allSizes (layout .fields) (layout .parts) ≡ true
+
+-- ---- what holds of every layout
+
+-- 1 to 3 let a file pass exactly when its fields are in range and its length is theirs.
+abbrev pub PassedToThree : Type 0
+PassedToThree = (layout : Layout) (file : List ℕ) → firstRefusal (layoutTests layout file) ≡ Passed ↔ SizedBy layout file
+
+-- Then each part is as long as its field says.
+abbrev pub PartsWhole : Type 0
+PartsWhole =
+    (layout : Layout) (file : List ℕ) → SizedBy layout file
+    → (i : ℕ) → length (partOf layout file i) ≡ getD (lengths layout file) i 0
+
+-- A file longer than the longest has the answer of its first bytes, one more than the longest has, whatever tests
+-- follow.
+abbrev pub LongerRefused : Type 0
+LongerRefused =
+    (layout : Layout) → Bounded layout → (file : List ℕ) → mostBytes layout < length file → (rest other : List Test)
+    → firstRefusal (layoutTests layout file ++ rest)
+    ≡ firstRefusal (layoutTests layout (take (suc (mostBytes layout)) file) ++ other)

@@ -6,7 +6,7 @@ ghost use Rattle.file.specs.Outside.{outside};
 use basics::place::Place;
 
 // Whether a size is from least to most, and those after it are in their ranges.
-pub fn fits(least: usize, n: usize, most: usize, rest: bool) -> bool
+pub fn fits_and(least: usize, n: usize, most: usize, rest: bool) -> bool
     ensures { λ r. ⌜ r ≡ both (both (leb least n) (leb n most)) rest ⌝ }
 {
     if n < least {

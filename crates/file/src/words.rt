@@ -4,8 +4,8 @@ ghost use mathlib.Core.Path.{_≡_};
 ghost use Rattle.basics.specs.Written.{written};
 ghost use Rattle.file.specs.Words.{fileWords, wordAt};
 
-// Room for the words of a short file. An array is cleared before a file's words are read into it, and clearing the longest file's room takes
-// longer than all else in the check of a short file.
+// Room for the words of a short file. An array is cleared before a file's words are read into it, and clearing the
+// longest file's room takes longer than all else in the check of a short file.
 pub const FEW_WORDS: usize = 1024;
 
 // A word of its two bytes.

@@ -1,4 +1,5 @@
--- The hypotheses that slots show, and that a step asks nothing else of hypotheses than whether the named one is there. Assumes nothing.
+-- The hypotheses that slots show, and that a step asks nothing else of hypotheses than whether the named one is there.
+-- Assumes nothing.
 use Prim.Native.Nat.{ℕ, zero, suc, _+_, _<_}
 use native.Mathlib.Omega.{arith}
 use native.Mathlib.Nat.{add-zero, add-suc, suc-add}

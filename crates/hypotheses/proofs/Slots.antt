@@ -1,5 +1,5 @@
--- Laws of the slots: statements are held one by one, the slots stay as many, and what is held and taken back leaves them as they were.
--- Assumes nothing.
+-- Laws of the slots: statements are held one by one, the slots stay as many, and what is held and taken back leaves
+-- them as they were. Assumes nothing.
 use Prim.Native.Nat.{ℕ, _+_, _<_, _≤_}
 use native.Mathlib.Omega.{arith}
 use native.Mathlib.Numerals.{add-one}

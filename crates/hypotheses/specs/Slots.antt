@@ -1,5 +1,5 @@
--- Slots: the hypotheses held, one flag for each formula, true where that formula is held. "Hypotheses are truths and form a set: a statement
--- that stands twice is one hypothesis." (01) Assumes nothing.
+-- Slots: the hypotheses held, one flag for each formula, true where that formula is held. "Hypotheses are truths and
+-- form a set: a statement that stands twice is one hypothesis." (01) Assumes nothing.
 use Prim.Native.Nat.{ℕ, suc, _<_}
 use mathlib.Core.Bool.{Bool, true, false}
 use mathlib.Core.Path.{_≡_}

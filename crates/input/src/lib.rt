@@ -7,7 +7,8 @@ pub struct Input {
     pub count: usize,
 }
 
-// Reads until buf is full or the input ends, each piece after the last one, or until a read fails. (No contract can say which bytes a read gives.)
+// Reads until buf is full or the input ends, each piece after the last one, or until a read fails. (No contract can say
+// which bytes a read gives.)
 pub fn read_input(fd: i32, buf: &mut [u8]) -> Input
     ensures { λ r. ⌜ Counts (r .count) (now (buf .exit)) ⌝ }
 {

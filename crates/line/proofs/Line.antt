@@ -15,7 +15,8 @@ use Rattle.text.specs.Fill.{placeAfter}
 use Rattle.text.proofs.Places.{fill-fits}
 use Rattle.line.specs.Line.{lineAfter, lineCount}
 
--- What a call owes that writes a line into lent bytes: the count, the bytes, and that so many bytes can be read from their start.
+-- What a call owes that writes a line into lent bytes: the count, the bytes, and that so many bytes can be read from
+-- their start.
 abbrev pub Owed : List ℕ → List ℕ → ℕ → List ℕ → Type 0
 Owed before line count after =
     (count ≡ lineCount before line)

@@ -1,4 +1,5 @@
--- The promises of specs/RecordLine.antt and specs/ExchangeLine.antt: every line of an answer fits into `mostLine` bytes. Assumes nothing.
+-- The promises of specs/RecordLine.antt and specs/ExchangeLine.antt: every line of an answer fits into `mostLine`
+-- bytes. Assumes nothing.
 use Prim.Native.Nat.{ℕ, zero, suc, _+_, _*_, _≤_, _<_}
 use native.Mathlib.Omega.{arith}
 use mathlib.Core.Path.{refl}

@@ -41,12 +41,12 @@ of-zeros (suc n) m = ⊎-elim (λ e. e) (of-zeros n) (List·Memᴰ·cases-cons m
 
 -- They are numbers of principals, or 0 as they were.
 are-words : (file : List ℕ) (n : ℕ) (v : RecordVerdict) (list : List ℕ) → ListAfter file v (replicate n 0) list → (k : ℕ) → k ∈ list → k < 65536
-are-words file n (Granted count) list left k m =
+are-words file n (Granted count) list after k m =
     ⊎-elim
-    (λ signs. let l = signers-are-principals (heads file) (seconds file) (statements file) k (left .are-signers .each k .0 signs) in omega arith)
+    (λ signs. let l = signers-are-principals (heads file) (seconds file) (statements file) k (after .are-signers .each k .0 signs) in omega arith)
     (λ old. let z = of-zeros n (of-drop count (replicate n 0) old) in omega arith)
-    (List·Memᴰ·append-cases (left .names) (subst (λ (l : List ℕ). k ∈ l) (left .after-is) m))
-are-words file n (Refused number place) list left k m = let z = of-zeros n (subst (λ (l : List ℕ). k ∈ l) left m) in omega arith
+    (List·Memᴰ·append-cases (after .names) (subst (λ (l : List ℕ). k ∈ l) (after .after-is) m))
+are-words file n (Refused number place) list after k m = let z = of-zeros n (subst (λ (l : List ℕ). k ∈ l) after m) in omega arith
 
 -- ---- the line
 

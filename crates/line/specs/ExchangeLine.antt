@@ -1,4 +1,5 @@
--- "The first word of the line is .. equal or refused for an exchange." (01) Proved in proofs/LineFits.antt. Assumes nothing.
+-- "The first word of the line is .. equal or refused for an exchange." (01) Proved in proofs/LineFits.antt. Assumes
+-- nothing.
 use Prim.Native.Nat.{ℕ, _≤_}
 use mathlib.Core.List.{List}
 use lib.ListN.{length}

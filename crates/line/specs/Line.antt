@@ -1,5 +1,5 @@
--- What is written where a line is written into lent bytes. "A call that writes a list or a text writes from its start, gives how many words or
--- bytes it wrote, and changes nothing beyond them." (01) Assumes nothing.
+-- What is written where a line is written into lent bytes. "A call that writes a list or a text writes from its start,
+-- gives how many words or bytes it wrote, and changes nothing beyond them." (01) Assumes nothing.
 use Prim.Native.Nat.{ℕ}
 use mathlib.Core.List.{List}
 use lib.ListN.{length}

@@ -1,6 +1,6 @@
--- "One program reads a record on standard input and lends a list of 256 words, one reads an exchange file; each prints one line." (01) What they
--- print for a file: the line of the check's answer, for a record with the list as the check leaves it. Proved in proofs/Printed.antt.
--- Assumes nothing.
+-- "One program reads a record on standard input and lends a list of 256 words, one reads an exchange file; each prints
+-- one line." (01) What they print for a file: the line of the check's answer, for a record with the list as the check
+-- leaves it. Proved in proofs/Printed.antt. Assumes nothing.
 use Prim.Native.Nat.{ℕ, _≤_}
 use mathlib.Core.Path.{_≡_}
 use mathlib.Core.List.{List, _++_}

@@ -1,5 +1,5 @@
--- "The first word of the line is granted or refused for a record .. After granted stand the count and the signers .. One blank parts the words
--- and a line feed ends the line." (01) Proved in proofs/LineFits.antt. Assumes nothing.
+-- "The first word of the line is granted or refused for a record .. After granted stand the count and the signers ..
+-- One blank parts the words and a line feed ends the line." (01) Proved in proofs/LineFits.antt. Assumes nothing.
 use Prim.Native.Nat.{ℕ, _≤_, _<_, _+_, _*_}
 use mathlib.Core.List.{List, [], _∷_, _++_}
 use lib.ListN.{length, take}

@@ -1,5 +1,5 @@
--- Samples of lines: those of 01, "Record A prints `granted 1 7`, sample C prints `refused 14 place 0`, sample K prints `equal`", and a few more.
--- Proved in proofs/Samples.antt, by computation. Assumes nothing.
+-- Samples of lines: those of 01, "Record A prints `granted 1 7`, sample C prints `refused 14 place 0`, sample K prints
+-- `equal`", and a few more. Proved in proofs/Samples.antt, by computation. Assumes nothing.
 use Prim.Native.Nat.{ℕ}
 use Prim.Native.String.{String}
 use mathlib.Core.Path.{_≡_}

@@ -1,4 +1,5 @@
-// The line for the answer about an exchange file. "The first word of the line is .. equal or refused for an exchange." (01)
+// The line for the answer about an exchange file. "The first word of the line is .. equal or refused for an exchange."
+// (01)
 ghost use Prim.Native.Nat.{_≤_};
 ghost use mathlib.Core.Path.{_≡_};
 ghost use lib.Dec.{leb};

@@ -1,4 +1,5 @@
-// "After granted stand the count and the signers" (01). What is written here is written as `text::fill::fill` writes: as far as there is room.
+// "After granted stand the count and the signers" (01). What is written here is written as `text::fill::fill` writes:
+// as far as there is room.
 ghost use mathlib.Core.Path.{_≡_};
 ghost use mathlib.Core.List.{_++_};
 ghost use lib.ListN.{take};

@@ -1,5 +1,5 @@
-// Whether a line has room, told before any of it is written: "A refusal .. changes nothing that is lent" (01), nor does a line without room.
-// The room left only falls and stays at 0, so nothing overflows.
+// Whether a line has room, told before any of it is written: "A refusal .. changes nothing that is lent" (01), nor does
+// a line without room. The room left only falls and stays at 0, so nothing overflows.
 ghost use Prim.Native.Nat.{_-_};
 ghost use mathlib.Core.Path.{_≡_};
 ghost use mathlib.Core.List.{_++_};

@@ -1,7 +1,7 @@
--- The first half of cut: a derivation is followed up to the right rule of its goal. `bind` hands what that rule was given to a
--- continuation, and what the continuation derives is derived below, since left rules serve every goal. Says left serves affirmations
--- only, those by principals for whom K speaks: so an affirmation leads to such an affirmation, and this is where transitivity is used.
--- Assumes nothing.
+-- The first half of cut: a derivation is followed up to the right rule of its goal. `bind` hands what that rule was
+-- given to a continuation, and what the continuation derives is derived below, since left rules serve every goal. Says
+-- left serves affirmations only, those by principals for whom K speaks: so an affirmation leads to such an affirmation,
+-- and this is where transitivity is used. Assumes nothing.
 use mathlib.Core.List.{List, _∷_}
 use mathlib.Core.Logic.{_⊎_, inl, inr}
 use Rattle.basics.specs.Membership.{_∈_, _⊆_}

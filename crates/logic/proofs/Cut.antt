@@ -1,8 +1,9 @@
 -- Cut and affirmation cut (003, Theorem 2, parts 4 and 5), for every transitive relation on principals.
 --
--- Cut goes by recursion on the proposition, and below that on the second derivation (`cut-in`). Its premises are freed of the
--- cut proposition first. Where its rule names the cut proposition itself, `bind` takes the first derivation to its right rule, and
--- what that rule was given is cut with the premises at the operands (`through-implies` and its like).
+-- Cut goes by recursion on the proposition, and below that on the second derivation (`cut-in`). Its premises are freed
+-- of the cut proposition first. Where its rule names the cut proposition itself, `bind` takes the first derivation to
+-- its right rule, and what that rule was given is cut with the premises at the operands (`through-implies` and its
+-- like).
 -- Never compute with these: they are for existence. Assumes nothing.
 use mathlib.Core.Path.{sym, subst}
 use mathlib.Core.Logic.{⊎-elim}

@@ -1,5 +1,5 @@
--- A derivation is as deep as its deepest step. Three lemmas on lists of numbers, one for each count of premises, say how the depths of the
--- steps and the depth grow together. Assumes nothing.
+-- A derivation is as deep as its deepest step. Three lemmas on lists of numbers, one for each count of premises, say
+-- how the depths of the steps and the depth grow together. Assumes nothing.
 use Prim.Native.Nat.{ℕ, suc, max, _+_, _≤_, _<_}
 use native.Mathlib.Omega.{arith}
 use mathlib.Core.Logic.{⊎-elim}

@@ -1,5 +1,5 @@
--- Demand 3's theorem: equal in force exactly when each statement of either list has a proof from the other. By identity one way, by a
--- cut at each statement the other way. Assumes nothing.
+-- Demand 3's theorem: equal in force exactly when each statement of either list has a proof from the other. By identity
+-- one way, by a cut at each statement the other way. Assumes nothing.
 use mathlib.Core.Path.{sym, subst}
 use mathlib.Core.Logic.{⊎-elim}
 use mathlib.Core.List.{List, [], _∷_, _++_, List·Memᴰ·head, List·Memᴰ·tail, List·Memᴰ·not-nil, List·Memᴰ·append-cases}

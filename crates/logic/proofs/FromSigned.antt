@@ -1,7 +1,7 @@
--- Derivations from signed statements alone. Only says left can name a signed statement, and its goal is an affirmation by somebody for whom
--- the signer speaks. So where the right rules of a goal end at an atom, which is no hypothesis, or at false, which has no right rule,
--- a derivation passes a says left: what follows from that, follows (`from-signed`). Where nothing speaks for anybody on the way, there is
--- no derivation. Assumes nothing.
+-- Derivations from signed statements alone. Only says left can name a signed statement, and its goal is an affirmation
+-- by somebody for whom the signer speaks. So where the right rules of a goal end at an atom, which is no hypothesis, or
+-- at false, which has no right rule, a derivation passes a says left: what follows from that, follows (`from-signed`).
+-- Where nothing speaks for anybody on the way, there is no derivation. Assumes nothing.
 use mathlib.Core.Path.{sym, subst}
 use mathlib.Core.List.{List, [], _∷_, List·Memᴰ·head, List·Memᴰ·tail, List·Memᴰ·not-nil}
 use Rattle.logic.specs.Proposition.{Proposition, Principal, atom, false, _implies_, _and_, _or_, _says_}

@@ -1,5 +1,5 @@
--- Identity (003, Theorem 2, part 2), by recursion on the proposition: take it apart by its left rule, put it together by its right rule.
--- For every reflexive relation on principals. Assumes nothing.
+-- Identity (003, Theorem 2, part 2), by recursion on the proposition: take it apart by its left rule, put it together
+-- by its right rule. For every reflexive relation on principals. Assumes nothing.
 use mathlib.Core.List.{_∷_}
 use Rattle.basics.proofs.Membership.{first, second, added}
 use Rattle.logic.specs.Proposition.{atom, false, _implies_, _and_, _or_, _says_}

@@ -1,4 +1,5 @@
--- The theorems whose statements are in specs/, and the lemmas behind them. Figure1, Samples, Says and Misreadings are cited from above.
+-- The theorems whose statements are in specs/, and the lemmas behind them. Figure1, Samples, Says and Misreadings are
+-- cited from above.
 pub mod Depth
 pub mod Structural
 pub mod OneStep

@@ -1,5 +1,5 @@
--- 003, Theorem 2, parts 2, 4 and 5. Proved in proofs/Identity.antt, for every reflexive relation on principals, and proofs/Cut.antt, for
--- every transitive one (affirmation cut: reflexive and transitive). Assumes nothing.
+-- 003, Theorem 2, parts 2, 4 and 5. Proved in proofs/Identity.antt, for every reflexive relation on principals, and
+-- proofs/Cut.antt, for every transitive one (affirmation cut: reflexive and transitive). Assumes nothing.
 use mathlib.Core.List.{List, _∷_}
 use Rattle.basics.specs.Membership.{_∈_}
 use Rattle.logic.specs.Proposition.{Proposition, Principal}

@@ -1,5 +1,5 @@
--- Depth. "The first step has depth 1, a premise's step one more than its conclusion's" (01). A derivation is as deep as its deepest step.
--- Assumes nothing.
+-- Depth. "The first step has depth 1, a premise's step one more than its conclusion's" (01). A derivation is as deep as
+-- its deepest step. Assumes nothing.
 use Prim.Native.Nat.{ℕ, suc, max, _≤_}
 use mathlib.Core.Path.{_≡_}
 use mathlib.Core.Logic.{_↔_}
@@ -25,7 +25,8 @@ module _ {R : Relation} where
   depth (says-right D) = suc (depth D)
   depth (says-left m r D) = suc (depth D)
 
-  -- The depths of the steps, one by one, where the first has depth d: "each step is followed by all of its first premise, then its second".
+  -- The depths of the steps, one by one, where the first has depth d: "each step is followed by all of its first
+  -- premise, then its second".
   abbrev pub stepDepths : {Γ : List Proposition} {γ : Judgment} → ℕ → Derivation R Γ γ → List ℕ
   stepDepths d (init m) = d ∷ []
   stepDepths d (affirm D) = d ∷ stepDepths (suc d) D

@@ -1,13 +1,14 @@
--- Derivations: the rules of 01's table, in its order and under its names. They are those of 003, Figure 1, without quantifiers, and
--- Gentzen's for and and or.
+-- Derivations: the rules of 01's table, in its order and under its names. They are those of 003, Figure 1, without
+-- quantifiers, and Gentzen's for and and or.
 --
--- Above each rule stands its row of the table: code, name, goal below, named hypothesis, premises in order. The rule says the same: the
--- named hypothesis, the premises, and last what it concludes. Γ holds the hypotheses. "Hypotheses are truths and form a set: a statement that
--- stands twice is one hypothesis": of the list only membership is used (Structural.antt: OneSet, TwiceIsOnce). A premise adds to Γ and takes nothing
--- away: "a formula named by a left rule remains a hypothesis in every premise".
+-- Above each rule stands its row of the table: code, name, goal below, named hypothesis, premises in order. The rule
+-- says the same: the named hypothesis, the premises, and last what it concludes. Γ holds the hypotheses. "Hypotheses
+-- are truths and form a set: a statement that stands twice is one hypothesis": of the list only membership is used
+-- (Structural.antt: OneSet, TwiceIsOnce). A premise adds to Γ and takes nothing away: "a formula named by a left rule
+-- remains a hypothesis in every premise".
 --
--- The relation on principals is used by says left alone: K speaks for L where K's word may serve an affirmation by L. Figure 1 takes
--- equality, "the same K" (Figure1.antt). Assumes nothing.
+-- The relation on principals is used by says left alone: K speaks for L where K's word may serve an affirmation by L.
+-- Figure 1 takes equality, "the same K" (Figure1.antt). Assumes nothing.
 use mathlib.Core.List.{List, _∷_}
 use Rattle.basics.specs.Membership.{_∈_}
 use Rattle.logic.specs.Proposition.{Proposition, Atom, Principal, atom, false, _implies_, _and_, _or_, _says_}

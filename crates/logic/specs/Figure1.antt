@@ -1,6 +1,6 @@
--- Figure 1 of 003 itself: a principal's word serves that same principal, and nobody else. The definitions and the promises with equality as
--- the relation on principals. What the documents call a proof and equal in force is meant so; whatever stands above these files cites
--- them from here. Proved in proofs/Figure1.antt. Assumes nothing.
+-- Figure 1 of 003 itself: a principal's word serves that same principal, and nobody else. The definitions and the
+-- promises with equality as the relation on principals. What the documents call a proof and equal in force is meant so;
+-- whatever stands above these files cites them from here. Proved in proofs/Figure1.antt. Assumes nothing.
 use mathlib.Core.Path.{_≡_}
 use mathlib.Core.List.{List}
 use Rattle.logic.specs.Proposition.{Proposition}

@@ -1,5 +1,5 @@
--- The authorization logic of Garg and Pfenning (003, Figure 1) as document 01 takes it, and what is promised of it: definitions and the
--- statements of theorems, to be read in this order. The proofs are in proofs/.
+-- The authorization logic of Garg and Pfenning (003, Figure 1) as document 01 takes it, and what is promised of it:
+-- definitions and the statements of theorems, to be read in this order. The proofs are in proofs/.
 pub mod Proposition
 pub mod Judgment
 pub mod Principals

@@ -1,5 +1,5 @@
--- The two rules without premises, for every relation on principals: init is on atoms alone, and false left serves every goal.
--- Proved in proofs/OneStep.antt. Assumes nothing.
+-- The two rules without premises, for every relation on principals: init is on atoms alone, and false left serves every
+-- goal. Proved in proofs/OneStep.antt. Assumes nothing.
 use mathlib.Core.Path.{_≡_}
 use mathlib.Core.List.{List}
 use mathlib.Core.Logic.{_↔_, _⊎_}

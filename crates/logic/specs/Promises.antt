@@ -1,5 +1,5 @@
--- All that is promised of derivations, for every relation on principals that is reflexive and transitive: one theorem, proved in
--- proofs/Promises.antt. (Most of it holds for more relations: the proofs say for which.) Assumes nothing.
+-- All that is promised of derivations, for every relation on principals that is reflexive and transitive: one theorem,
+-- proved in proofs/Promises.antt. (Most of it holds for more relations: the proofs say for which.) Assumes nothing.
 use Rattle.logic.specs.Principals.{Relation, Reflexive, Transitive}
 use Rattle.logic.specs.Depth.{DepthOfSteps}
 use Rattle.logic.specs.Structural.{Weakening, OneSet, TwiceIsOnce}

@@ -1,5 +1,5 @@
--- 01's samples, as far as they are about propositions: what their statements prove and do not prove, by any steps at all. As files they come
--- with the checks. Proved in proofs/Samples.antt. Assumes nothing.
+-- 01's samples, as far as they are about propositions: what their statements prove and do not prove, by any steps at
+-- all. As files they come with the checks. Proved in proofs/Samples.antt. Assumes nothing.
 use mathlib.Core.Path.{_≡_}
 use mathlib.Core.List.{[], _∷_}
 use Rattle.logic.specs.Proposition.{atom, _and_, _says_}

@@ -1,5 +1,5 @@
--- 003, section 2.2: three formulas that are derivable from no hypotheses, and three that are not. Proved in proofs/Says.antt.
--- Assumes nothing.
+-- 003, section 2.2: three formulas that are derivable from no hypotheses, and three that are not. Proved in
+-- proofs/Says.antt. Assumes nothing.
 use mathlib.Core.List.{[]}
 use mathlib.Core.Logic.{_≢_}
 use Rattle.logic.specs.Proposition.{Proposition, Atom, Principal, atom, false, _implies_, _says_}
@@ -17,8 +17,8 @@ SaysDistributes = (K : Principal) (A B : Proposition) → HasProof [] (K says (A
 abbrev pub SaysTwiceIsSays : Type 0
 SaysTwiceIsSays = (K : Principal) (A : Proposition) → HasProof [] (K says K says A implies K says A)
 
--- The other three are not derivable "in the given generality". The first fails for every principal and every atom, the second for every
--- principal, the third for every two principals that differ and every atom.
+-- The other three are not derivable "in the given generality". The first fails for every principal and every atom, the
+-- second for every principal, the third for every two principals that differ and every atom.
 
 -- ⊬ (K says A) ⊃ A
 abbrev pub SaidIsNotTrue : Type 0

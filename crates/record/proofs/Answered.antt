@@ -6,32 +6,32 @@ use mathlib.Core.Logic.{_↔_}
 use mathlib.Core.List.{List}
 use lib.ListN.{length}
 use Rattle.basics.specs.declared.tested.Tested.{Tested}
-use Rattle.basics.specs.declared.tested.Tested.the-variants as Tests
-use Rattle.basics.specs.Refusals.{firstRefusal}
+use Rattle.basics.specs.declared.tested.Tested.the-variants as Outcome
+use Rattle.basics.specs.Refusals.{firstRefusal, unlessRefused}
 use Rattle.basics.proofs.Refusals.{not-passed}
 use Rattle.record.specs.declared.verdict.RecordVerdict.the-variants.{Granted, Refused}
 use Rattle.record.specs.Layout.{signers}
-use Rattle.record.specs.Answer.{tests, unlessRefused, recordAnswer}
+use Rattle.record.specs.Answer.{tests, recordAnswer}
 
 -- A refusal is no grant.
 not-granted : {number p count : ℕ} → Refused number p ≡ Granted count → ⊥
 not-granted e = let z : _≡_ {A = ℕ} 0 1 = cc in omega arith
 
 -- Granted: the tests passed; refused: they refused.
-grants : (t : Tested) (n count : ℕ) → unlessRefused t (Granted n) ≡ Granted count ↔ ((t ≡ Tests.Passed) × (count ≡ n))
-grants Tests.Passed n count = (λ e. (refl, cc), λ (_, e). cc)
-grants (Tests.Refused m p) n count = (λ e. absurd (not-granted e), λ (e, _). absurd (not-passed e))
+grants : (t : Tested) (n count : ℕ) → unlessRefused Refused t (Granted n) ≡ Granted count ↔ ((t ≡ Outcome.Passed) × (count ≡ n))
+grants Outcome.Passed n count = (λ e. (refl, cc), λ (_, e). cc)
+grants (Outcome.Refused m p) n count = (λ e. absurd (not-granted e), λ (e, _). absurd (not-passed e))
 
-refuses : (t : Tested) (n number p : ℕ) → unlessRefused t (Granted n) ≡ Refused number p ↔ t ≡ Tests.Refused number p
-refuses Tests.Passed n number p = (λ e. absurd (not-granted (sym e)), λ e. absurd (not-passed (sym e)))
-refuses (Tests.Refused m q) n number p = (λ e. cc, λ e. cc)
+refuses : (t : Tested) (n number p : ℕ) → unlessRefused Refused t (Granted n) ≡ Refused number p ↔ t ≡ Outcome.Refused number p
+refuses Outcome.Passed n number p = (λ e. absurd (not-granted (sym e)), λ e. absurd (not-passed (sym e)))
+refuses (Outcome.Refused m q) n number p = (λ e. cc, λ e. cc)
 
 -- So for a file.
 module _ (file : List ℕ) (room : ℕ) where
-  pub answer-granted : (count : ℕ) → recordAnswer file room ≡ Granted count ↔ ((firstRefusal (tests file room) ≡ Tests.Passed) × (count ≡ length (signers file)))
+  pub answer-granted : (count : ℕ) → recordAnswer file room ≡ Granted count ↔ ((firstRefusal (tests file room) ≡ Outcome.Passed) × (count ≡ length (signers file)))
   unfolding recordAnswer
   answer-granted count = grants (firstRefusal (tests file room)) (length (signers file)) count
 
-  pub answer-refused : (number p : ℕ) → recordAnswer file room ≡ Refused number p ↔ firstRefusal (tests file room) ≡ Tests.Refused number p
+  pub answer-refused : (number p : ℕ) → recordAnswer file room ≡ Refused number p ↔ firstRefusal (tests file room) ≡ Outcome.Refused number p
   unfolding recordAnswer
   answer-refused number p = refuses (firstRefusal (tests file room)) (length (signers file)) number p

@@ -1,5 +1,5 @@
--- A record is granted exactly when it keeps the layout and its limits, its words are a proof of its goal and its signers fit the lent list
--- (specs/Promises.antt, `GrantedExactly`). Assumes nothing.
+-- A record is granted exactly when it keeps the layout and its limits, its words are a proof of its goal and its
+-- signers fit the lent list (specs/Promises.antt, `GrantedExactly`). Assumes nothing.
 use mathlib.Core.Path.{ap, _∙_}
 use mathlib.Core.List.{[], _∷_}
 use lib.ListN.{length}

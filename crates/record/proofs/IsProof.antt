@@ -1,4 +1,5 @@
--- The machine closes on the steps of a file that keeps the layout exactly when they are a proof of its goal. Assumes nothing.
+-- The machine closes on the steps of a file that keeps the layout exactly when they are a proof of its goal. Assumes
+-- nothing.
 use Prim.Native.Nat.{ℕ}
 use native.Mathlib.Omega.{arith}
 use mathlib.Core.Path.{_≡_, refl, sym, subst, _∙_}

@@ -1,4 +1,5 @@
--- No test applies exactly when a file keeps the layout and its limits, its signers fit the lent list, and the walk closes. Assumes nothing.
+-- No test applies exactly when a file keeps the layout and its limits, its signers fit the lent list, and the walk
+-- closes. Assumes nothing.
 use Prim.Native.Nat.{ℕ, _≤_}
 use mathlib.Core.Path.{_≡_}
 use mathlib.Core.Logic.{_↔_, Iff·trans}

@@ -5,10 +5,9 @@ use mathlib.Core.Path.{_≡_, refl, ap}
 use mathlib.Core.Logic.{_↔_}
 use mathlib.Core.List.{List}
 use Rattle.file.specs.Words.{part}
-use Rattle.file.specs.Layout as Any
-use Rattle.file.specs.Layout.{AllFit, Bounded}
+use Rattle.file.specs.Layout.{SizedBy, Bounded}
 use Rattle.record.specs.Layout.{recordLayout, formulas, statementCount, stepCount, LayoutIs}
-use Rattle.record.specs.Proof.{InRange, Sized}
+use Rattle.record.specs.Proof.{RangesAre, Sized}
 
 pub layout-is : (file : List ℕ) → LayoutIs file
 layout-is file =
@@ -30,15 +29,14 @@ layout-is file =
 pub bounded : Bounded recordLayout
 bounded = refl
 
--- The fields are in the layout's ranges exactly when they are in those named.
-pub in-range : (file : List ℕ) → AllFit (recordLayout .fields) file 0 ↔ InRange file
-in-range file = (
+pub ranges-are : RangesAre
+ranges-are file = (
   λ ((f, f′), ((s, s′), ((n, n′), _))). record { some-formulas = f; few-formulas = f′; few-statements = s′; some-steps = n; few-steps = n′ },
   λ r. ((r .some-formulas, r .few-formulas), ((omega arith, r .few-statements), ((r .some-steps, r .few-steps), (tt, tt)))),
 )
 
-pub sized : (file : List ℕ) → Any.Sized recordLayout file ↔ Sized file
+pub sized : (file : List ℕ) → SizedBy recordLayout file ↔ Sized file
 sized file = (
-  λ s. record { in-range = in-range file .0 (s .in-range); length-is = s .length-is },
-  λ s. record { in-range = in-range file .1 (s .in-range); length-is = s .length-is },
+  λ s. record { in-range = ranges-are file .0 (s .in-range); length-is = s .length-is },
+  λ s. record { in-range = ranges-are file .1 (s .in-range); length-is = s .length-is },
 )

@@ -3,7 +3,7 @@ use Prim.Native.Nat.{ℕ}
 use mathlib.Core.List.{List}
 use mathlib.Core.Path.{_≡_}
 use lib.ListN.{length}
-use Rattle.file.proofs.LayoutLaws.{length-part}
+use Rattle.file.proofs.LayoutLaws.{parts-whole}
 use Rattle.table.specs.Tests.{SizedTable}
 use Rattle.table.proofs.TableTests as Table
 use Rattle.record.specs.Layout.{recordLayout, formulas, heads, seconds, table}
@@ -12,10 +12,10 @@ use Rattle.record.proofs.LayoutIs.{sized}
 
 module _ (file : List ℕ) (s : Sized file) where
   pub length-heads : length (heads file) ≡ formulas file
-  length-heads = length-part recordLayout file (sized file .1 s) 0
+  length-heads = parts-whole recordLayout file (sized file .1 s) 0
 
   pub length-seconds : length (seconds file) ≡ formulas file
-  length-seconds = length-part recordLayout file (sized file .1 s) 1
+  length-seconds = parts-whole recordLayout file (sized file .1 s) 1
 
   pub length-table : length (table file) ≡ formulas file
   length-table = Table.length-table (heads file) (seconds file) length-heads length-seconds

@@ -1,26 +1,28 @@
--- A file longer than the longest record has the answer of its first bytes (specs/Promises.antt, `LongerFile`). Assumes nothing.
+-- A file longer than the longest record has the answer of its first bytes (specs/Promises.antt, `LongerFile`). Assumes
+-- nothing.
 use Prim.Native.Nat.{ℕ, suc}
 use mathlib.Core.Bool.{Bool, true, false}
 use mathlib.Core.Path.{_≡_, refl, sym, ap, _∙_}
 use mathlib.Core.List.{List}
 use lib.ListN.{length, take, drop}
 use Rattle.basics.specs.declared.tested.Tested.{Tested}
-use Rattle.basics.specs.declared.tested.Tested.the-variants as Tests
+use Rattle.basics.specs.declared.tested.Tested.the-variants as Outcome
 use Rattle.basics.specs.Choice.{pick}
+use Rattle.basics.specs.Refusals.{unlessRefused}
 use Rattle.file.specs.Layout.{inRange}
-use Rattle.file.proofs.LayoutLaws.{too-long, longer}
+use Rattle.file.proofs.LayoutLaws.{too-long, longer-refused}
 use Rattle.record.specs.declared.verdict.RecordVerdict.{RecordVerdict}
-use Rattle.record.specs.declared.verdict.RecordVerdict.the-variants.{Granted}
+use Rattle.record.specs.declared.verdict.RecordVerdict.the-variants.{Granted, Refused}
 use Rattle.record.specs.Layout.{recordLayout, mostBytes, signers}
-use Rattle.record.specs.Answer.{tests, unlessRefused, recordAnswer}
+use Rattle.record.specs.Answer.{tests, recordAnswer}
 use Rattle.record.specs.Promises.{LongerFile}
 use Rattle.record.proofs.LayoutIs.{bounded}
 
 -- What follows a refusal by 2 or 3 doesn't count.
-either : (b : Bool) {t : Tested} (verdict other : RecordVerdict) → t ≡ pick b (Tests.Refused 3 0) (Tests.Refused 2 0)
-    → unlessRefused t verdict ≡ unlessRefused t other
-either true verdict other e = ap (λ (t : Tested). unlessRefused t verdict) e ∙ ap (λ (t : Tested). unlessRefused t other) (sym e)
-either false verdict other e = ap (λ (t : Tested). unlessRefused t verdict) e ∙ ap (λ (t : Tested). unlessRefused t other) (sym e)
+either : (b : Bool) {t : Tested} (verdict other : RecordVerdict) → t ≡ pick b (Outcome.Refused 3 0) (Outcome.Refused 2 0)
+    → unlessRefused Refused t verdict ≡ unlessRefused Refused t other
+either true verdict other e = ap (λ (t : Tested). unlessRefused Refused t verdict) e ∙ ap (λ (t : Tested). unlessRefused Refused t other) (sym e)
+either false verdict other e = ap (λ (t : Tested). unlessRefused Refused t verdict) e ∙ ap (λ (t : Tested). unlessRefused Refused t other) (sym e)
 
 pub longer-file : LongerFile
 unfolding recordAnswer
@@ -28,4 +30,4 @@ longer-file file room long =
     let front : List ℕ = take (suc mostBytes) file in
     let rest = drop 3 (tests file room) in
     either (inRange recordLayout file) (Granted (length (signers file))) (Granted (length (signers front))) (too-long recordLayout bounded file _ refl long rest)
-    ∙ ap (λ (t : Tested). unlessRefused t (Granted (length (signers front)))) (longer recordLayout bounded file long rest (drop 3 (tests front room)))
+    ∙ ap (λ (t : Tested). unlessRefused Refused t (Granted (length (signers front)))) (longer-refused recordLayout bounded file long rest (drop 3 (tests front room)))

@@ -1,5 +1,5 @@
--- The reasons to refuse a file (specs/Reasons.antt) are the tests, where they apply; so a file is refused exactly by the reason that stands first in the
--- checking order (specs/Promises.antt, `RefusedExactly`). Assumes nothing.
+-- The reasons to refuse a file (specs/Reasons.antt) are the tests, where they apply; so a file is refused exactly by
+-- the reason that stands first in the checking order (specs/Promises.antt, `RefusedExactly`). Assumes nothing.
 use Prim.Native.Nat.{ℕ, _≤_, _<_}
 use mathlib.Core.Path.{_≡_, refl, sym}
 use mathlib.Core.Logic.{_↔_, Iff·trans, _⊎_, inl, inr, ⊎-elim}
@@ -7,13 +7,12 @@ use mathlib.Core.List.{List, [], _∷_}
 use lib.ListN.{length, getD}
 use lib.Dec.{leb}
 use Rattle.basics.specs.declared.place.Place.the-variants.{At}
-use Rattle.basics.specs.Membership.{_∈_}
 use Rattle.basics.specs.First.{IsFirst}
 use Rattle.basics.specs.Refusals.{Test, test}
 use Rattle.basics.specs.Order.{checkingOrder}
 use Rattle.basics.proofs.First.{first-place}
 use Rattle.basics.proofs.Asked.{less, at-most, at0-at}
-use Rattle.basics.proofs.Order.{OneApplies, one-of-three, Follows, applying-in, refused-in-order, is-distinct}
+use Rattle.basics.proofs.Order.{OneApplies, one-of-three, Follows, applying-in, refused-in-order, is-distinct, in-checking-order}
 use Rattle.file.specs.Layout.{layoutTests}
 use Rattle.file.proofs.Reasons.{layout-reasons}
 use Rattle.table.specs.Tests.{entryTests}
@@ -26,9 +25,9 @@ use Rattle.steps.proofs.Walked.{walked-applies, walked-follows}
 use Rattle.steps.proofs.Figure1.{refused-where, refused-in-range}
 use Rattle.record.specs.Layout.{recordLayout, formulas, goal, heads, seconds, statements, steps, table, signers}
 use Rattle.record.specs.Answer.{goalOutside, statementOutside, listShort, tests, stepVerdict}
-use Rattle.record.specs.Reasons.{Reason, layout-broken, entry-wrong, goal-outside, statement-outside, list-short, stops}
+use Rattle.record.specs.Reasons.{Reason, layout-broken, table-broken, goal-outside, statement-outside, list-short, stops}
 use Rattle.record.specs.Promises.{RefusedExactly}
-use Rattle.record.proofs.LayoutIs.{in-range}
+use Rattle.record.proofs.LayoutIs.{ranges-are}
 use Rattle.record.proofs.Answered.{answer-refused}
 
 -- ---- 9 to 15
@@ -71,8 +70,8 @@ module _ (file : List ℕ) (room number p : ℕ) where
   later one = joined .1 (inr (inr one))
 
   from-reason : Reason file room number p → OneApplies (tests file room) number p
-  from-reason (layout-broken r) = joined .1 (inl (layout-reasons recordLayout file (in-range file) number p .0 r))
-  from-reason (entry-wrong r) = joined .1 (inr (inl (entry-reasons (heads file) (seconds file) number p .0 r)))
+  from-reason (layout-broken r) = joined .1 (inl (layout-reasons recordLayout file (ranges-are file) number p .0 r))
+  from-reason (table-broken r) = joined .1 (inr (inl (entry-reasons (heads file) (seconds file) number p .0 r)))
   from-reason (goal-outside n z l) = later (inl (sym n, six .1 (z, l)))
   from-reason (statement-outside n is) = later (inr (inl (sym n, seven .1 is)))
   from-reason (list-short n z l) = later (inr (inr (inl (sym n, eight .1 (z, l)))))
@@ -86,8 +85,8 @@ module _ (file : List ℕ) (room number p : ℕ) where
 
   to-reason : OneApplies (tests file room) number p → Reason file room number p
   to-reason one =
-      ⊎-elim (λ h. layout-broken (layout-reasons recordLayout file (in-range file) number p .1 h))
-      (⊎-elim (λ h. entry-wrong (entry-reasons (heads file) (seconds file) number p .1 h)) from-6-reason)
+      ⊎-elim (λ h. layout-broken (layout-reasons recordLayout file (ranges-are file) number p .1 h))
+      (⊎-elim (λ h. table-broken (entry-reasons (heads file) (seconds file) number p .1 h)) from-6-reason)
       (joined .0 one)
 
   reasons : Reason file room number p ↔ OneApplies (tests file room) number p
@@ -100,9 +99,9 @@ follows file room =
     let from-9 = walked-follows (stepVerdict file) range in
     inl (refl, inl (refl, inl (refl, inl (refl, inl (refl, inl (refl, inl (refl, inl (refl, from-9))))))))
 
--- A reason's number is one of it.
-pub reason-in : (file : List ℕ) (room number p : ℕ) → Reason file room number p → number ∈ checkingOrder
-reason-in file room number p r = applying-in checkingOrder (tests file room) number p (follows file room) (from-reason file room number p r)
+-- A reason's number is one of it: 1 to 15.
+pub reason-range : (file : List ℕ) (room number p : ℕ) → Reason file room number p → (1 ≤ number) × (number ≤ 15)
+reason-range file room number p r = in-checking-order number (applying-in checkingOrder (tests file room) number p (follows file room) (from-reason file room number p r))
 
 pub refused-exactly : RefusedExactly
 refused-exactly file room number p =

@@ -1,5 +1,5 @@
--- Hypotheses form a set: records that differ only in how often and in which order their statements stand have one answer, and the same
--- signers (specs/Promises.antt, `StatementsAreASet` and `StatedTwice`). Assumes nothing.
+-- Hypotheses form a set: records that differ only in how often and in which order their statements stand have one
+-- answer, and the same signers (specs/Promises.antt, `StatementsAreASet` and `StatedTwice`). Assumes nothing.
 use Prim.Native.Nat.{ℕ, _<_}
 use mathlib.Core.Path.{_≡_, refl, sym, ap, ap₂, subst, _∙_}
 use mathlib.Core.Logic.{_↔_, Iff·symm}

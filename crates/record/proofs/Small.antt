@@ -18,11 +18,11 @@ use Rattle.record.specs.declared.verdict.RecordVerdict.the-variants.{Gra
 use Rattle.record.specs.Layout.{recordLayout, heads, seconds, statements, table}
 use Rattle.record.specs.Answer.{recordAnswer}
 use Rattle.record.specs.Proof.{InRange}
-use Rattle.record.specs.Reasons.{Reason, layout-broken, entry-wrong, goal-outside, statement-outside, list-short, stops}
+use Rattle.record.specs.Reasons.{Reason, layout-broken, table-broken, goal-outside, statement-outside, list-short, stops}
 use Rattle.record.specs.Promises.{Releases, Small, AnswersSmall}
-use Rattle.record.proofs.LayoutIs.{in-range}
+use Rattle.record.proofs.LayoutIs.{ranges-are}
 use Rattle.record.proofs.Granted.{granted-exactly}
-use Rattle.record.proofs.Reasons.{stop-small, reason-in, refused-exactly}
+use Rattle.record.proofs.Reasons.{stop-small, reason-range, refused-exactly}
 
 module _ (file : List ℕ) (room : ℕ) where
   -- There are no more signers than statements.
@@ -36,13 +36,14 @@ module _ (file : List ℕ) (room : ℕ) where
   -- A reason after 2 is given of a file whose sizes are in range,
   ranges : (number p : ℕ) → FirstReason checkingOrder (Reason file room) number p → 2 < number → InRange file
   ranges number p r l =
-      let two-before = before-is-lower number 2 (reason-in file room number p (r .applies)) .1 (omega arith, l) in
-      settled _ (Iff·trans (Any.in-range recordLayout file) (in-range file)) (λ outside. r .none-before 2 0 two-before (layout-broken (size-outside refl refl outside)))
+      let (least, most) = reason-range file room number p (r .applies) in
+      let two-before = before-is-lower number 2 least most .1 (omega arith, l) in
+      settled _ (Iff·trans (Any.in-range recordLayout file) (ranges-are file)) (λ outside. r .none-before 2 0 two-before (layout-broken (size-outside refl refl outside)))
 
   -- and a place that isn't 0 is within one of its parts.
   reason-small : (number p : ℕ) → (2 < number → InRange file) → Reason file room number p → Small (Refused number p)
   reason-small number p range (layout-broken r) = let (least, most, z) = layout-small r in (omega arith, omega arith, omega arith)
-  reason-small number p range (entry-wrong r) =
+  reason-small number p range (table-broken r) =
       let (least, most, l) = entry-small (heads file) (seconds file) number p r in
       let few = range (omega arith) .few-formulas in
       (omega arith, omega arith, omega (arith, part-most recordLayout file 0))

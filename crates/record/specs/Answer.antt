@@ -1,13 +1,11 @@
--- What the check of a record answers, for every file of any bytes and length and every length of the lent list: "Refused, in checking order"
--- (01), test by test. Assumes nothing.
+-- What the check of a record answers, for every file of any bytes and length and every length of the lent list:
+-- "Refused, in checking order" (01), test by test. Assumes nothing.
 use Prim.Native.Nat.{ℕ}
 use mathlib.Core.List.{List, [], _∷_, _++_}
 use lib.ListN.{length}
 use lib.Dec.{ltb, leb}
 use Rattle.basics.specs.declared.place.Place.{Place}
-use Rattle.basics.specs.declared.tested.Tested.{Tested}
-use Rattle.basics.specs.declared.tested.Tested.the-variants as Tests
-use Rattle.basics.specs.Refusals.{Test, test, at0, firstRefusal}
+use Rattle.basics.specs.Refusals.{Test, test, at0, firstRefusal, unlessRefused}
 use Rattle.file.specs.Layout.{layoutTests}
 use Rattle.file.specs.Outside.{outside}
 use Rattle.table.specs.Tests.{entryTests}
@@ -35,7 +33,8 @@ listShort file room = at0 (ltb room (length (signers file)))
 abbrev pub stepVerdict : List ℕ → WalkVerdict
 stepVerdict file = run (table file) (steps file) (obligation (statements file) (goal file) ∷ [])
 
--- 1 to 15, in 01's order: 1 to 3 by the layout (file/specs/Layout.antt), 4 and 5 of the table (table/specs/Tests.antt), and the walk as the last.
+-- 1 to 15, in 01's order: 1 to 3 by the layout (file/specs/Layout.antt), 4 and 5 of the table (table/specs/Tests.antt),
+-- and the walk as the last.
 abbrev pub tests : List ℕ → ℕ → List Test
 tests file room =
     layoutTests recordLayout file
@@ -46,11 +45,6 @@ tests file room =
     ∷ walked (stepVerdict file)
     ∷ []))
 
--- a refusal stands, and where no test refuses this is the answer
-abbrev pub unlessRefused : Tested → RecordVerdict → RecordVerdict
-unlessRefused Tests.Passed verdict = verdict
-unlessRefused (Tests.Refused number place) verdict = Refused number place
-
 -- "Granted gives their count", the signers'.
 unfoldable pub recordAnswer : List ℕ → ℕ → RecordVerdict
-recordAnswer file room = unlessRefused (firstRefusal (tests file room)) (Granted (length (signers file)))
+recordAnswer file room = unlessRefused Refused (firstRefusal (tests file room)) (Granted (length (signers file)))

@@ -1,6 +1,7 @@
--- "A file of 16-bit words, low byte first .. Sizes come first: F formulas (1 to 4,096), S statements (0 to 256), N steps (1 to 16,384), and
--- the goal's formula number. Then two parallel arrays of F words each, heads and seconds. Then S formula numbers, the statements. Then N step
--- words." (01) Each is read as far as a file goes, so that it is something for every file. Assumes nothing.
+-- "A file of 16-bit words, low byte first .. Sizes come first: F formulas (1 to 4,096), S statements (0 to 256), N
+-- steps (1 to 16,384), and the goal's formula number. Then two parallel arrays of F words each, heads and seconds. Then
+-- S formula numbers, the statements. Then N step words." (01) Each is read as far as a file goes, so that it is
+-- something for every file. Assumes nothing.
 use Prim.Native.Nat.{ℕ, _+_, _*_}
 use mathlib.Core.Path.{_≡_}
 use mathlib.Core.List.{List, [], _∷_}
@@ -52,7 +53,8 @@ size file = Any.bytes recordLayout file
 abbrev pub mostBytes : ℕ
 mostBytes = Any.mostBytes recordLayout
 
--- The same in 01's numbers: where each array stands, and "The length is 2 × (4 + 2F + S + N) bytes, at most 49,672." Proved in proofs/LayoutIs.antt.
+-- The same in 01's numbers: where each array stands, and "The length is 2 × (4 + 2F + S + N) bytes, at most 49,672."
+-- Proved in proofs/LayoutIs.antt.
 pub record LayoutIs (file : List ℕ) : Type 0 where
   pub heads-at : heads file ≡ part file 4 (formulas file)
   pub seconds-at : seconds file ≡ part file (4 + formulas file) (formulas file)

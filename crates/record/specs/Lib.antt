@@ -1,5 +1,5 @@
--- The record of document 01, in the order of its sentences: the layout, the answer test by test, and what a call leaves in the lent list;
--- then demands 1 and 2 in plain words, what is promised, and the samples.
+-- The record of document 01, in the order of its sentences: the layout, the answer test by test, and what a call leaves
+-- in the lent list; then demands 1 and 2 in plain words, what is promised, and the samples.
 pub mod Layout
 pub mod Answer
 pub mod ListAfter

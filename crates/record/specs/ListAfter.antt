@@ -1,5 +1,5 @@
--- What a call leaves in the lent list: the list after it. "The signers .. go into a lent list of 16-bit words, from its start; the words after them don't
--- change." "A refusal .. changes nothing that is lent." (01) Assumes nothing.
+-- What a call leaves in the lent list: the list after it. "The signers .. go into a lent list of 16-bit words, from its
+-- start; the words after them don't change." "A refusal .. changes nothing that is lent." (01) Assumes nothing.
 use Prim.Native.Nat.{ℕ}
 use mathlib.Core.Path.{_≡_}
 use mathlib.Core.List.{List, _++_}
@@ -9,7 +9,8 @@ use Rattle.record.specs.declared.verdict.RecordVerdict.{RecordVerdict}
 use Rattle.record.specs.declared.verdict.RecordVerdict.the-variants.{Granted, Refused}
 use Rattle.record.specs.Layout.{table, statements}
 
--- A grant with a count has written so many words, the signers, each once. FREE: in which order they stand, and nothing else.
+-- A grant with a count has written so many words, the signers, each once. FREE: in which order they stand, and nothing
+-- else.
 pub record SignersWritten (file : List ℕ) (count : ℕ) (before after : List ℕ) : Type 0 where
   pub names : List ℕ
   pub are-signers : AreSigners (table file) (statements file) names

@@ -1,4 +1,5 @@
--- What is promised of the answers: demands 1 and 2 for records. Each is proved in proofs/ under its name in small letters. Assumes nothing.
+-- What is promised of the answers: demands 1 and 2 for records. Each is proved in proofs/ under its name in small
+-- letters. Assumes nothing.
 use Prim.Native.Nat.{ℕ, suc, _≤_, _<_}
 use mathlib.Core.Path.{_≡_}
 use mathlib.Core.Logic.{_↔_}
@@ -15,9 +16,9 @@ use Rattle.record.specs.Answer.{recordAnswer}
 use Rattle.record.specs.Proof.{Sized, Keeps, IsProof}
 use Rattle.record.specs.Reasons.{Reason}
 
--- What a grant says. "A record that keeps the layout and its limits, whose words are a proof of its goal and whose signers fit the list lent
--- for them, is granted with its signers." "Within the limits, and with a list long enough for the signers, the checker grants every such
--- proof and nothing else." (demands 1 and 2)
+-- What a grant says. "A record that keeps the layout and its limits, whose words are a proof of its goal and whose
+-- signers fit the list lent for them, is granted with its signers." "Within the limits, and with a list long enough for
+-- the signers, the checker grants every such proof and nothing else." (demands 1 and 2)
 pub record Releases (file : List ℕ) (room count : ℕ) : Type 0 where
   pub keeps : Keeps file
   pub is-proof : IsProof file
@@ -27,8 +28,8 @@ pub record Releases (file : List ℕ) (room count : ℕ) : Type 0 where
 abbrev pub GrantedExactly : Type 0
 GrantedExactly = (file : List ℕ) (room count : ℕ) → recordAnswer file room ≡ Granted count ↔ Releases file room count
 
--- "Every other file, of any bytes and length, is refused by the first reason in the fixed order that applies, with its place" (demand 1): of
--- those that apply the one that stands first in the checking order.
+-- "Every other file, of any bytes and length, is refused by the first reason in the fixed order that applies, with its
+-- place" (demand 1): of those that apply the one that stands first in the checking order.
 abbrev pub RefusedExactly : Type 0
 RefusedExactly = (file : List ℕ) (room number p : ℕ) → recordAnswer file room ≡ Refused number p ↔ FirstReason checkingOrder (Reason file room) number p
 
@@ -59,7 +60,8 @@ StatementsAreASet =
     → ((n : ℕ) → n ∈ statements file → n < formulas file)
     → (room : ℕ) → recordAnswer file room ≡ recordAnswer other room
 
--- so one is granted exactly when the other is, with the same signers. "They put a statement in twice and think it weighs double." (00)
+-- so one is granted exactly when the other is, with the same signers. "They put a statement in twice and think it
+-- weighs double." (00)
 abbrev pub StatedTwice : Type 0
 StatedTwice =
     (file other : List ℕ) → Sized file → Sized other → SameSet file other

@@ -1,10 +1,13 @@
--- Demands 1 and 2 in plain words: what a record is "that keeps the layout and its limits, whose words are a proof of its goal". Assumes nothing.
+-- Demands 1 and 2 in plain words: what a record is "that keeps the layout and its limits, whose words are a proof of
+-- its goal". Assumes nothing.
 use Prim.Native.Nat.{ℕ, _≤_, _<_}
 use mathlib.Core.Path.{_≡_}
+use mathlib.Core.Logic.{_↔_}
 use mathlib.Core.List.{List}
 use lib.ListN.{length}
 use Rattle.basics.specs.Membership.{_∈_}
 use Rattle.basics.specs.Limits.{mostFormulas, mostStatements, mostSteps, mostDepth}
+use Rattle.file.specs.Layout.{AllFit}
 use Rattle.logic.specs.Judgment.{truth}
 use Rattle.logic.specs.Depth.{stepDepths}
 use Rattle.logic.specs.Figure1.{Derivation}
@@ -12,7 +15,7 @@ use Rattle.table.specs.Laws.{Ordered, NoneRepeated}
 use Rattle.table.specs.Spelled.{spell, spellAll}
 use Rattle.table.specs.Number.{number}
 use Rattle.steps.specs.Words as Derived
-use Rattle.record.specs.Layout.{formulas, statementCount, stepCount, goal, heads, seconds, statements, steps, size, table}
+use Rattle.record.specs.Layout.{recordLayout, formulas, statementCount, stepCount, goal, heads, seconds, statements, steps, size, table}
 
 -- "F formulas (1 to 4,096), S statements (0 to 256), N steps (1 to 16,384)"
 pub record InRange (file : List ℕ) : Type 0 where
@@ -21,6 +24,10 @@ pub record InRange (file : List ℕ) : Type 0 where
   pub few-statements : statementCount file ≤ mostStatements
   pub some-steps : 1 ≤ stepCount file
   pub few-steps : stepCount file ≤ mostSteps
+
+-- These are the layout's ranges. Proved in proofs/LayoutIs.antt.
+abbrev pub RangesAre : Type 0
+RangesAre = (file : List ℕ) → AllFit (recordLayout .fields) file 0 ↔ InRange file
 
 -- The sizes are in their ranges, and the length is theirs: 1 to 3 don't apply.
 pub record Sized (file : List ℕ) : Type 0 where
@@ -35,8 +42,8 @@ pub record Keeps (file : List ℕ) : Type 0 where
   pub goal-in : goal file < formulas file
   pub statements-in : (n : ℕ) → n ∈ statements file → n < formulas file
 
--- "whose words are a proof of its goal": a derivation in Figure 1 of what the goal's number spells, from what the statements' numbers spell.
--- Its words are the step words, and none of its steps is deeper than 512.
+-- "whose words are a proof of its goal": a derivation in Figure 1 of what the goal's number spells, from what the
+-- statements' numbers spell. Its words are the step words, and none of its steps is deeper than 512.
 pub record IsProof (file : List ℕ) : Type 0 where
   pub derivation : Derivation (spellAll (table file) (statements file)) (truth (spell (table file) (goal file)))
   pub within : (d : ℕ) → d ∈ stepDepths 1 derivation → d ≤ mostDepth

@@ -1,5 +1,5 @@
--- The samples of document 01 that are marked m, A to H, as whole files: one table, proved in proofs/Samples.antt by computation. Each lends a
--- list of 256 words, as the program does. Assumes nothing.
+-- The samples of document 01 that are marked m, A to H, as whole files: one table, proved in proofs/Samples.antt by
+-- computation. Each lends a list of 256 words, as the program does. Assumes nothing.
 use Prim.Native.Nat.{ℕ}
 use mathlib.Core.Path.{_≡_}
 use mathlib.Core.List.{List, [], _∷_, _++_, map}
@@ -61,9 +61,12 @@ Hold samples =
 abbrev pub Samples : Type 0
 Samples = Hold rows
 
--- "Refused, in checking order": each of 1 to 8, and where two apply the first counts. In order: no byte at all; F is 0, and the length is wrong; a
--- word too many; N and M, as records; a repeated entry at 1 and a wrong one at 2; the goal and a statement of F or more; a statement of F or more at
--- 1; A's statement, goal and steps with no room for the signer, and the same with a wrong step; and B with no room, which it needs none of.
+-- "Refused, in checking order": each of 1 to 8, and where two apply the first counts. In order: no byte at all; F is 0,
+-- and the length is wrong; a word too many; N and M, as records; a repeated entry at 1 and a wrong one at 2; the goal
+-- and a statement of F or more; a statement of F or more at 1; A's statement, goal and steps with no room for the
+-- signer, and the same with a wrong step; and B with no room, which it needs none of. Then
+-- the limits of F, S and N, and one past each: within them the length is wrong. And a goal of 65,535, which 2 doesn't
+-- look at.
 abbrev pub order : List Sample
 order =
     refuses [] 256 1 0
@@ -77,6 +80,13 @@ order =
     ∷ refuses (overT (1 ∷ []) 1 (40960 ∷ 45057 ∷ 4096 ∷ 0 ∷ [])) 0 8 0
     ∷ refuses (overT (1 ∷ []) 1 (49152 ∷ [])) 0 8 0
     ∷ grants (overT (0 ∷ []) 1 (40960 ∷ 4096 ∷ 0 ∷ [])) 0 []
+    ∷ refuses (1 ∷ 0 ∷ 1 ∷ 0 ∷ []) 256 3 0
+    ∷ refuses (4096 ∷ 256 ∷ 16384 ∷ 0 ∷ []) 256 3 0
+    ∷ refuses (4097 ∷ 0 ∷ 1 ∷ 0 ∷ []) 256 2 0
+    ∷ refuses (1 ∷ 257 ∷ 1 ∷ 0 ∷ []) 256 2 0
+    ∷ refuses (1 ∷ 0 ∷ 0 ∷ 0 ∷ []) 256 2 0
+    ∷ refuses (1 ∷ 0 ∷ 16385 ∷ 0 ∷ []) 256 2 0
+    ∷ refuses (overT [] 65535 (0 ∷ [])) 256 6 0
     ∷ []
 
 abbrev pub Order : Type 0

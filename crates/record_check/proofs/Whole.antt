@@ -4,17 +4,17 @@ use mathlib.Core.Path.{_≡_, sym, ap, _∙_}
 use mathlib.Core.List.{List, [], _∷_, _++_}
 use lib.ListN.{length, drop}
 use Rattle.basics.specs.declared.tested.Tested.{Tested}
-use Rattle.basics.specs.declared.tested.Tested.the-variants as Tests
-use Rattle.basics.specs.Refusals.{Test, firstRefusal}
+use Rattle.basics.specs.declared.tested.Tested.the-variants as Outcome
+use Rattle.basics.specs.Refusals.{Test, firstRefusal, unlessRefused}
 use Rattle.basics.proofs.Refusals.{joined-refused, joined-passed}
 use Rattle.basics.proofs.Written.{written-fits}
 use Rattle.file.specs.Layout.{layoutTests}
-use Rattle.file.proofs.LayoutLaws.{passed-to-3, sized-most}
+use Rattle.file.proofs.LayoutLaws.{passed-to-three, sized-most}
 use Rattle.signers.proofs.Each.{signers-are}
 use Rattle.record.specs.declared.verdict.RecordVerdict.{RecordVerdict}
 use Rattle.record.specs.declared.verdict.RecordVerdict.the-variants.{Granted, Refused}
 use Rattle.record.specs.Layout.{recordLayout, mostBytes, goal, heads, seconds, statements, steps, table, signers}
-use Rattle.record.specs.Answer.{tests, unlessRefused, recordAnswer}
+use Rattle.record.specs.Answer.{tests, recordAnswer}
 use Rattle.record.specs.ListAfter.{ListAfter}
 use Rattle.record.specs.Proof.{Sized}
 use Rattle.record.proofs.LayoutIs.{bounded, sized}
@@ -30,14 +30,14 @@ module _ (file : List ℕ) where
   from-4 room = drop 3 (tests file room)
 
   -- A refusal by 1 to 3 is the answer.
-  pub layout-refused : (room : ℕ) {t : Tested} {number p : ℕ} → t ≡ firstRefusal (layoutTests recordLayout file) → t ≡ Tests.Refused number p
+  pub layout-refused : (room : ℕ) {t : Tested} {number p : ℕ} → t ≡ firstRefusal (layoutTests recordLayout file) → t ≡ Outcome.Refused number p
       → Refused number p ≡ recordAnswer file room
   layout-refused room {t} {number} {p} answered e =
       sym (answer-refused file room number p .1 (joined-refused (layoutTests recordLayout file) (from-4 room) (sym answered ∙ e)))
 
   -- A file that they let pass has the sizes and the length that the layout asks for,
-  pub layout-passed : {t : Tested} → t ≡ firstRefusal (layoutTests recordLayout file) → t ≡ Tests.Passed → Sized file
-  layout-passed answered e = sized file .0 (passed-to-3 recordLayout file .0 (sym answered ∙ e))
+  pub layout-passed : {t : Tested} → t ≡ firstRefusal (layoutTests recordLayout file) → t ≡ Outcome.Passed → Sized file
+  layout-passed answered e = sized file .0 (passed-to-three recordLayout file .0 (sym answered ∙ e))
 
   -- so it is no longer than the longest record.
   pub at-most : Sized file → length file ≤ mostBytes
@@ -47,19 +47,19 @@ module _ (file : List ℕ) where
 
   module _ (s : Sized file) where
     -- 4 to 15 are left of the tests
-    tests-left :
+    tests-from-4 :
         (room : ℕ)
         → firstRefusal
         (arrayTests (heads file) (seconds file) (statements file) (goal file) room
         ++ (stepTest (heads file) (seconds file) (statements file) (goal file) (steps file) ∷ []))
         ≡ firstRefusal (tests file room)
-    tests-left room =
-        let passed = passed-to-3 recordLayout file .1 (sized file .1 s) in
+    tests-from-4 room =
+        let passed = passed-to-three recordLayout file .1 (sized file .1 s) in
         rw (length-heads file s) (sym (joined-passed (layoutTests recordLayout file) (from-4 room) passed))
 
     answers : (room : ℕ) → arraysAnswer (heads file) (seconds file) (statements file) (goal file) (steps file) room ≡ recordAnswer file room
     unfolding recordAnswer
-    answers room = ap (λ (t : Tested). unlessRefused t (Granted (length (signers file)))) (tests-left room)
+    answers room = ap (λ (t : Tested). unlessRefused Refused t (Granted (length (signers file)))) (tests-from-4 room)
 
     -- what is in the list at the end
     leaves : (before after : List ℕ) (v : RecordVerdict) → v ≡ recordAnswer file (length before)

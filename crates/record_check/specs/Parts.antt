@@ -1,9 +1,10 @@
--- What the parts of the check answer, over a file's arrays: 4 to 8, 9 to 15, and both. With 1 to 3 they are `recordAnswer`. Assumes nothing.
+-- What the parts of the check answer, over a file's arrays: 4 to 8, 9 to 15, and both. With 1 to 3 they are
+-- `recordAnswer`. Assumes nothing.
 use Prim.Native.Nat.{ℕ}
 use mathlib.Core.List.{List, [], _∷_, _++_}
 use lib.ListN.{length}
 use lib.Dec.{ltb, leb}
-use Rattle.basics.specs.Refusals.{Test, test, at0, firstRefusal}
+use Rattle.basics.specs.Refusals.{Test, test, at0, firstRefusal, unlessRefused}
 use Rattle.basics.specs.Written.{written}
 use Rattle.file.specs.Outside.{outside}
 use Rattle.table.specs.Tests.{entries, entryTests}
@@ -13,7 +14,6 @@ use Rattle.steps.specs.Figure1.{run}
 use Rattle.signers.specs.Signers.{signers}
 use Rattle.record.specs.declared.verdict.RecordVerdict.{RecordVerdict}
 use Rattle.record.specs.declared.verdict.RecordVerdict.the-variants.{Granted, Refused}
-use Rattle.record.specs.Answer.{unlessRefused}
 
 -- 4 to 8, for a table of F entries
 abbrev pub arrayTests : List ℕ → List ℕ → List ℕ → ℕ → ℕ → List Test
@@ -35,7 +35,7 @@ granted heads seconds statements = Granted (length (signers (entries heads secon
 -- 4 to 15, over arrays of a size that 2 allows
 abbrev pub arraysAnswer : List ℕ → List ℕ → List ℕ → ℕ → List ℕ → ℕ → RecordVerdict
 arraysAnswer heads seconds statements goal steps room =
-    unlessRefused (firstRefusal (arrayTests heads seconds statements goal room ++ (stepTest heads seconds statements goal steps ∷ [])))
+    unlessRefused Refused (firstRefusal (arrayTests heads seconds statements goal room ++ (stepTest heads seconds statements goal steps ∷ [])))
     (granted heads seconds statements)
 
 -- what is then in the lent list

@@ -10,7 +10,7 @@ ghost use Rattle.record_check.specs.Parts.{granted, arraysAnswer, listWr
 use crate::arrays::check_arrays;
 use crate::layout::MOST_WORDS;
 use crate::layout::check_layout;
-use crate::proof::check_steps;
+use crate::step_tests::check_steps;
 use basics::tested::Tested;
 use file::words::FEW_WORDS;
 use file::words::read_words;
@@ -83,8 +83,8 @@ fn check_sized(file: &[u8], words: &mut [u16], signers: &mut [u16]) -> RecordVer
     )
 }
 
-// The answer for a file of any bytes and length. On a grant the signers stand in the lent list from its start, in some order, and the words after
-// them are as they were; on a refusal the whole list is.
+// The answer for a file of any bytes and length. On a grant the signers stand in the lent list from its start, in some
+// order, and the words after them are as they were; on a refusal the whole list is.
 pub fn check_record(file: &[u8], signers: &mut [u16]) -> RecordVerdict
     ensures { λ r. ⌜ r ≡ recordAnswer (now (file .entry)) (length (now (signers .entry))) ⌝ }
     ensures { λ r. ⌜ ListAfter (now (file .entry)) r (now (signers .entry)) (now (signers .exit)) ⌝ }

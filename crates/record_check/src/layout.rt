@@ -9,33 +9,33 @@ use basics::limits::MOST_FORMULAS;
 use basics::limits::MOST_STATEMENTS;
 use basics::limits::MOST_STEPS;
 use basics::tested::Tested;
-use file::numbers::fits;
+use file::numbers::fits_and;
 use file::words::word_at;
 
 // "The length is 2 × (4 + 2F + S + N) bytes, at most 49,672." (01)
-pub const MOST_WORDS: usize = 4 + 2 * MOST_FORMULAS + MOST_STATEMENTS + MOST_STEPS;
+pub(crate) const MOST_WORDS: usize = 4 + 2 * MOST_FORMULAS + MOST_STATEMENTS + MOST_STEPS;
 
-pub const MOST_BYTES: usize = 2 * MOST_WORDS;
+const MOST_BYTES: usize = 2 * MOST_WORDS;
 
-// Bytes for a file, one more than the longest record has: so a longer file is seen to be longer, and its answer is that of the bytes here
-// (`LongerFile`). Free: what they hold before a file is read into them.
+// Bytes for a file, one more than the longest record has: so a longer file is seen to be longer, and its answer is that
+// of the bytes here (`LongerFile`). Free: what they hold before a file is read into them.
 pub fn file_buffer() -> [u8; MOST_BYTES + 1]
     ensures { λ r. ⌜ suc mostBytes ≡ length r ⌝ }
 {
     [0; MOST_BYTES + 1]
 }
 
-// 1 to 3. "Sizes come first: F formulas (1 to 4,096), S statements (0 to 256), N steps (1 to 16,384), and the goal's formula number", of which
-// nothing is asked here.
+// 1 to 3. "Sizes come first: F formulas (1 to 4,096), S statements (0 to 256), N steps (1 to 16,384), and the goal's
+// formula number", of which nothing is asked here.
 pub(crate) fn check_layout(file: &[u8]) -> Tested
     ensures { λ r. ⌜ r ≡ firstRefusal (layoutTests recordLayout (now (file .entry))) ⌝ }
 {
     let formulas = word_at(file, 0) as usize;
     let statements = word_at(file, 1) as usize;
     let steps = word_at(file, 2) as usize;
-    let steps_fit = fits(1, steps, MOST_STEPS, true);
-    let counts_fit = fits(0, statements, MOST_STATEMENTS, steps_fit);
-    let fit = fits(1, formulas, MOST_FORMULAS, counts_fit);
+    let steps_fit = fits_and(1, steps, MOST_STEPS, true);
+    let counts_fit = fits_and(0, statements, MOST_STATEMENTS, steps_fit);
+    let fit = fits_and(1, formulas, MOST_FORMULAS, counts_fit);
     file::layout::check_layout(
         file,
         8,

@@ -2,4 +2,4 @@
 mod arrays;
 pub mod check;
 pub mod layout;
-mod proof;
+mod step_tests;

@@ -13,10 +13,12 @@ use line_write::exchange_line::write_exchange_line;
 use line_write::record_line::write_record_line;
 use record_check::check::check_record;
 
-// Every line of a record's answer fits into so many bytes: a count of three digits, and 256 signers of five, each after a blank.
-pub const MOST_LINE: usize = 8 + 3 + MOST_STATEMENTS * 6 + 1;
+// Every line of a record's answer fits into so many bytes: a count of three digits, and 256 signers of five, each after
+// a blank.
+const MOST_LINE: usize = 8 + 3 + MOST_STATEMENTS * 6 + 1;
 
-// Bytes for a line: every line has room (`WholeLine`, `WholeExchangeLine`). Free: what they hold before a line is written.
+// Bytes for a line: every line has room (`WholeLine`, `WholeExchangeLine`). Free: what they hold before a line is
+// written.
 pub fn line_buffer() -> [u8; MOST_LINE]
     ensures { λ r. ⌜ mostLine ≡ length r ⌝ }
 {

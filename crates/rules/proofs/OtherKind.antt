@@ -1,5 +1,5 @@
--- A rule that needs an entry of one kind refuses every other with 13: for the `else` of `let Entry::Implies(a, b) = .. else`, where the
--- code knows that the entry's tag is one of the others. One law for each kind. Assumes nothing.
+-- A rule that needs an entry of one kind refuses every other with 13: for the `else` of `let Entry::Implies(a, b) = ..
+-- else`, where the code knows that the entry's tag is one of the others. One law for each kind. Assumes nothing.
 use Prim.Native.Nat.{ℕ}
 use mathlib.Core.Bool.{not}
 use mathlib.Core.Path.{_≡_, refl, subst}

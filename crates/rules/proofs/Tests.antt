@@ -1,4 +1,5 @@
--- Laws of tests 11 and 12: which numbers have an entry, which codes have no rule, and that the slots answer 12. Assumes nothing.
+-- Laws of tests 11 and 12: which numbers have an entry, which codes have no rule, and that the slots answer 12. Assumes
+-- nothing.
 use Prim.Native.Nat.{ℕ, zero, suc, _≤_, min}
 use native.Mathlib.Omega.{arith}
 use mathlib.Core.Bool.{Bool, true, false}

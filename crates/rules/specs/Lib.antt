@@ -1,2 +1,3 @@
--- A step with test 12 answered. The meaning of a step is in the crate `steps`, and how lent slots stand for hypotheses in `hypotheses`.
+-- A step with test 12 answered. The meaning of a step is in the crate `steps`, and how lent slots stand for hypotheses
+-- in `hypotheses`.
 pub mod Tested

@@ -1,5 +1,5 @@
-// 01's table of rules, a function a row: what the rule needs of the goal and of the named formula, and the premises that it opens.
-// Above each stands its row: code, name, goal below, named hypothesis, premises in order.
+// 01's table of rules, a function a row: what the rule needs of the goal and of the named formula, and the premises
+// that it opens. Above each stands its row: code, name, goal below, named hypothesis, premises in order.
 ghost use mathlib.Core.Path.{_≡_};
 ghost use mathlib.Core.List.{[]};
 ghost use Rattle.table.specs.Tests.{entries, entryAt};

@@ -46,7 +46,8 @@ fn plain(n: u16, opened: Opened) -> Opened
     if n == 0 { opened } else { Opened::Refused(11) }
 }
 
-// The rule of a code, in 01's order. "11. The code is 12 or more, .." What a rule answers by 13 or 14 counts only where 11 and 12 have passed.
+// The rule of a code, in 01's order. "11. The code is 12 or more, .." What a rule answers by 13 or 14 counts only where
+// 11 and 12 have passed.
 fn apply(heads: &[u16], seconds: &[u16], held: bool, code: u16, n: u16, goal: Goal) -> Opened
     ensures { λ r. ⌜ r ≡ tested (getD (rules same (entries (now (heads .entry)) (now (seconds .entry)))) code unknown) held n goal ⌝ }
 {
@@ -67,7 +68,8 @@ fn apply(heads: &[u16], seconds: &[u16], held: bool, code: u16, n: u16, goal: Go
     }
 }
 
-// What a step word opens at a depth, for a goal, with the hypotheses that the slots show: a refusal's number, or the premises.
+// What a step word opens at a depth, for a goal, with the hypotheses that the slots show: a refusal's number, or the
+// premises.
 pub fn open(
     heads: &[u16],
     seconds: &[u16],

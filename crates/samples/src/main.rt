@@ -1,5 +1,6 @@
-// Checks the files that its arguments name, and prints for each the name, a blank and the line of 01, as `check_record` prints it for a record and
-// `check_exchange` for an exchange file. A name that ends with `.exchange` names an exchange file.
+// Checks the files that its arguments name, and prints for each the name, a blank and the line of 01, as `check_record`
+// prints it for a record and `check_exchange` for an exchange file. A name that ends with `.exchange` names an exchange
+// file.
 ghost use Prim.Native.Nat.{_≤_};
 ghost use mathlib.Core.Path.{_≡_};
 ghost use lib.ListN.{length, take};
@@ -33,8 +34,8 @@ fn print_line(name: &[u8], file: &[u8]) {
     io::write_all(STDOUT_FILENO, &line[..length]);
 }
 
-// Reads a file that is open, and prints its line. Where it can't be read, standard error says so. An exchange file is the longer one, and a record
-// longer than the longest has the answer of its first bytes (`LongerFile`).
+// Reads a file that is open, and prints its line. Where it can't be read, standard error says so. An exchange file is
+// the longer one, and a record longer than the longest has the answer of its first bytes (`LongerFile`).
 fn check_open(name: &[u8], fd: i32) {
     let mut file = file_buffer();
     let input = read_input(fd, &mut file);

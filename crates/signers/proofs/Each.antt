@@ -1,5 +1,6 @@
--- The theorems of specs/Each.antt but NoMoreThanStatements and SignersArePrincipals, which are in Joined.antt: what is joined are the signers, each once, and any other
--- list of them is as long; over propositions they are the principals of what is spelled. Assumes nothing.
+-- The theorems of specs/Each.antt but NoMoreThanStatements and SignersArePrincipals, which are in Joined.antt: what is
+-- joined are the signers, each once, and any other list of them is as long; over propositions they are the principals
+-- of what is spelled. Assumes nothing.
 use Prim.Native.Nat.{ℕ}
 use native.Mathlib.Omega.{arith}
 use mathlib.Core.Bool.{false≢true}

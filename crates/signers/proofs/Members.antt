@@ -1,4 +1,5 @@
--- Numbers of which none stands twice: one more goes behind them, and they are no more than any list that has them all. Assumes nothing.
+-- Numbers of which none stands twice: one more goes behind them, and they are no more than any list that has them all.
+-- Assumes nothing.
 use Prim.Native.Nat.{ℕ, suc, _≤_}
 use native.Mathlib.Omega.{arith}
 use mathlib.Core.Path.{_≡_, refl, sym, ap, _∙_}

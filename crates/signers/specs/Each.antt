@@ -1,4 +1,5 @@
--- What holds of the signers in whatever order they stand: "each once, in any order" (01). Proved in proofs/. Assumes nothing.
+-- What holds of the signers in whatever order they stand: "each once, in any order" (01). Proved in proofs/. Assumes
+-- nothing.
 use Prim.Native.Nat.{ℕ, _≤_, _<_}
 use mathlib.Core.Path.{_≡_}
 use mathlib.Core.Logic.{_↔_}

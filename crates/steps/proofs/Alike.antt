@@ -1,5 +1,5 @@
--- Hypotheses form a set, and what a refusal can be (specs/Alike.antt). In order: a step of obligations that are alike; their walk; the number of
--- a step's refusal; number and place of a run's. Assumes nothing.
+-- Hypotheses form a set, and what a refusal can be (specs/Alike.antt). In order: a step of obligations that are alike;
+-- their walk; the number of a step's refusal; number and place of a run's. Assumes nothing.
 use Prim.Native.Nat.{ℕ, suc, _+_, _≤_}
 use native.Mathlib.Omega.{arith}
 use mathlib.Core.Bool.{Bool, true, false}

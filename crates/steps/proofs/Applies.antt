@@ -1,5 +1,5 @@
--- The rules that apply: 01's table once more, as a relation. What a step opens is a refusal or the premises of a rule that applies, so to
--- show something of every step, show it of each row here (`step-takes`). Assumes nothing.
+-- The rules that apply: 01's table once more, as a relation. What a step opens is a refusal or the premises of a rule
+-- that applies, so to show something of every step, show it of each row here (`step-takes`). Assumes nothing.
 use Prim.Native.Nat.{ℕ, _≤_, _<_}
 use mathlib.Core.Bool.{Bool, true}
 use mathlib.Core.Path.{_≡_, sym, subst}

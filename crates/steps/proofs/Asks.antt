@@ -1,5 +1,5 @@
--- An obligation asks for a judgment from hypotheses: all of them propositions that the table has, under their numbers. An obligation in
--- the table asks for what it spells out, and its premises ask for what a rule adds. Assumes nothing.
+-- An obligation asks for a judgment from hypotheses: all of them propositions that the table has, under their numbers.
+-- An obligation in the table asks for what it spells out, and its premises ask for what a rule adds. Assumes nothing.
 use Prim.Native.Nat.{ℕ, _<_}
 use mathlib.Core.Path.{_≡_, refl, sym, ap, subst}
 use mathlib.Core.List.{List, [], _∷_, _++_, List·Memᴰ·head, List·Memᴰ·tail, Memᴰ·of-map}

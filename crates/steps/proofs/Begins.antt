@@ -1,5 +1,5 @@
--- Words that begin with certain words, and depths within a limit: what is to be known of a derivation's words and depths, and how it grows
--- with them. Assumes nothing.
+-- Words that begin with certain words, and depths within a limit: what is to be known of a derivation's words and
+-- depths, and how it grows with them. Assumes nothing.
 use Prim.Native.Nat.{ℕ, _≤_}
 use native.Mathlib.Omega.{arith}
 use mathlib.Core.Path.{_≡_}

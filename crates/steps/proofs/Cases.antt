@@ -1,5 +1,6 @@
--- Cases of a step: what holds of each continuation's premises, under the equation that leads there, holds of the premises of the whole.
--- A refusal has none. In order: what "of the premises" means; a goal's kinds; an entry's kinds; a list's positions. Assumes nothing.
+-- Cases of a step: what holds of each continuation's premises, under the equation that leads there, holds of the
+-- premises of the whole. A refusal has none. In order: what "of the premises" means; a goal's kinds; an entry's kinds;
+-- a list's positions. Assumes nothing.
 use Prim.Native.Nat.{ℕ, zero, suc}
 use mathlib.Core.Bool.{Bool, true}
 use mathlib.Core.Path.{_≡_, refl}

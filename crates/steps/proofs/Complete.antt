@@ -1,4 +1,5 @@
--- Complete: the words of derivations close the obligations, and give the derivations' lines. By recursion on the derivation. Assumes nothing.
+-- Complete: the words of derivations close the obligations, and give the derivations' lines. By recursion on the
+-- derivation. Assumes nothing.
 use Prim.Native.Nat.{ℕ, suc, _+_, _≤_}
 use native.Mathlib.Omega.{arith}
 use mathlib.Core.Bool.{Bool}
@@ -30,8 +31,9 @@ use Rattle.steps.proofs.Asks.{goalOf, Asks, asks-alone, asks-adding, as
 use Rattle.steps.proofs.Taken.{taken-plain, taken-named}
 
 module _ (speaks : ℕ → ℕ → Bool) (R : Relation) (decides : Decides speaks R) (limit : ℕ) {es : List Entry} (t : Passed es) where
-  -- A derivation's words prove an obligation that asks for what it derives, where no step is too deep, and give its lines. At each rule: the
-  -- entry that the rule needs, the premises that its step opens, and that each asks for what the premise's derivation derives.
+  -- A derivation's words prove an obligation that asks for what it derives, where no step is too deep, and give its
+  -- lines. At each rule: the entry that the rule needs, the premises that its step opens, and that each asks for what
+  -- the premise's derivation derives.
   derived : {Γ : List Proposition} {γ : Judgment} (D : Derivation R Γ γ) (o : Obligation) → Asks es o Γ γ → o .depth + depth D ≤ suc limit
       → Uses speaks limit es (words (number es) D) (lines D) (o ∷ [])
   derived (init {a = a} m) o q d =

@@ -1,5 +1,5 @@
--- From the premises of a rule that applies to what it concludes: derivations of the premises, whose words stand one after the other, give
--- one of the goal, whose words are the step's word and then theirs. Assumes nothing.
+-- From the premises of a rule that applies to what it concludes: derivations of the premises, whose words stand one
+-- after the other, give one of the goal, whose words are the step's word and then theirs. Assumes nothing.
 use Prim.Native.Nat.{ℕ, suc, _≤_}
 use mathlib.Core.Bool.{Bool}
 use mathlib.Core.Path.{_≡_, refl, sym, ap, subst, _∙_}
@@ -57,7 +57,8 @@ module _ (R : Relation) (limit : ℕ) (es : List Entry) where
         → entryAt es n ≡ e → Derived Γ (truth (proposition (spelled es) e)) d ws rest → Derived Γ (truth (spell es n)) d ws rest
     right n {ws = ws} {rest = rest} e = subst (λ A. Derived Γ (truth A) d ws rest) (sym (spell-at es ordered n e))
 
-    -- 01's table, row by row: m finds the named hypothesis, D and E derive the premises, w, p and q are about words, and z ends them.
+    -- 01's table, row by row: m finds the named hypothesis, D and E derive the premises, w, p and q are about words,
+    -- and z ends them.
     pub derived : {c n : ℕ} {g : Goal} {ps : List Premise} {ws rest : List ℕ}
         → Applies speaks es hs c n g ps → Chain (DerivedPremise Γ d) ps ws rest → Derived Γ (judgment es g) d (word c n ∷ ws) rest
     derived (init h e) z = let (m, w) = left 0 h e in right _ e (Derivation.init m, first fits w (nothing z))

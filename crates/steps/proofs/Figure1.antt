@@ -1,5 +1,5 @@
--- The machine of document 01 closes on exactly the words of derivations, and its trace is their lines; its hypotheses form a set, and its
--- refusals are 9 to 15, each where the words stop (specs/Figure1.antt). Assumes nothing.
+-- The machine of document 01 closes on exactly the words of derivations, and its trace is their lines; its hypotheses
+-- form a set, and its refusals are 9 to 15, each where the words stop (specs/Figure1.antt). Assumes nothing.
 use Prim.Native.Nat.{ℕ}
 use native.Mathlib.Omega.{arith}
 use mathlib.Core.Path.{_≡_}

@@ -1,5 +1,5 @@
--- What a table has that passed its tests: a proposition stands at its number, by an entry of its kind with the numbers of its parts, and
--- the table has these parts. Assumes nothing.
+-- What a table has that passed its tests: a proposition stands at its number, by an entry of its kind with the numbers
+-- of its parts, and the table has these parts. Assumes nothing.
 use Prim.Native.Nat.{ℕ, _<_, _≤_}
 use native.Mathlib.Omega.{arith}
 use mathlib.Core.Path.{_≡_, sym, ap, ap₂, _∙_}

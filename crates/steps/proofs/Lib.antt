@@ -1,5 +1,5 @@
--- The theorems whose statements are in specs/, and the lemmas behind them. What stands above leans on Cases and Applies (what holds of
--- every rule's premises), Closed, Parts, Trace and Figure1. Assumes nothing.
+-- The theorems whose statements are in specs/, and the lemmas behind them. What stands above leans on Cases and Applies
+-- (what holds of every rule's premises), Closed, Parts, Trace and Figure1. Assumes nothing.
 pub mod Cases
 pub mod Applies
 pub mod Parts

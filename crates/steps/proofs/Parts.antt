@@ -1,4 +1,5 @@
--- The walk part by part: the theorems of specs/Parts.antt, and what one word does at a place of a file. Assumes nothing.
+-- The walk part by part: the theorems of specs/Parts.antt, and what one word does at a place of a file. Assumes
+-- nothing.
 use Prim.Native.Nat.{ℕ, suc, _+_, _-_, _<_, _≤_}
 use native.Mathlib.Omega.{arith}
 use native.Mathlib.Nat.{suc-add}

@@ -1,5 +1,6 @@
--- Sound: where a run closes, its words are those of derivations. By induction on the words; at a step, derivations of the premises give one
--- of the obligation. Each is from any hypotheses that cover the obligation's, so that nothing has to be weakened. Assumes nothing.
+-- Sound: where a run closes, its words are those of derivations. By induction on the words; at a step, derivations of
+-- the premises give one of the obligation. Each is from any hypotheses that cover the obligation's, so that nothing has
+-- to be weakened. Assumes nothing.
 use Prim.Native.Nat.{ℕ, suc, _+_}
 use native.Mathlib.Omega.{arith}
 use mathlib.Core.Bool.{Bool}

@@ -1,5 +1,5 @@
--- Where the machine stops (specs/Stops.antt). In order: a refusal is a stop; the walk goes on with what the words before a place leave to prove,
--- so a stop is a refusal. Assumes nothing.
+-- Where the machine stops (specs/Stops.antt). In order: a refusal is a stop; the walk goes on with what the words
+-- before a place leave to prove, so a stop is a refusal. Assumes nothing.
 use Prim.Native.Nat.{ℕ, suc, _+_, _≤_}
 use native.Mathlib.Omega.{arith}
 use mathlib.Core.Bool.{Bool}

@@ -1,5 +1,5 @@
--- A step that is taken: a word no deeper than the limit opens what the rule of its code opens, if it names nothing or a hypothesis, and
--- its line has that code, what it names and the goal. Assumes nothing.
+-- A step that is taken: a word no deeper than the limit opens what the rule of its code opens, if it names nothing or a
+-- hypothesis, and its line has that code, what it names and the goal. Assumes nothing.
 use Prim.Native.Nat.{ℕ, _≤_, _<_}
 use native.Mathlib.Omega.{arith}
 use mathlib.Core.Bool.{Bool}

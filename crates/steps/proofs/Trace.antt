@@ -1,5 +1,6 @@
--- The trace: a line for each word of a run that closes, and on the words of derivations the lines of these derivations (specs/Trace.antt).
--- The latter comes with completeness: Uses.antt carries the lines along with the words. Assumes nothing.
+-- The trace: a line for each word of a run that closes, and on the words of derivations the lines of these derivations
+-- (specs/Trace.antt). The latter comes with completeness: Uses.antt carries the lines along with the words. Assumes
+-- nothing.
 use Prim.Native.Nat.{ℕ, suc, _+_}
 use native.Mathlib.Omega.{arith}
 use mathlib.Core.Bool.{Bool}

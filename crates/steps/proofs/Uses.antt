@@ -1,5 +1,6 @@
--- Words that are used up, and the lines that they give. All that running a derivation's words asks of `walk` and of `trace`: no words prove
--- nothing, words are used one part after the other, and a step's words are its own and those of its premises. Assumes nothing.
+-- Words that are used up, and the lines that they give. All that running a derivation's words asks of `walk` and of
+-- `trace`: no words prove nothing, words are used one part after the other, and a step's words are its own and those of
+-- its premises. Assumes nothing.
 use Prim.Native.Nat.{ℕ, suc, _+_}
 use native.Mathlib.Omega.{arith}
 use mathlib.Core.Bool.{Bool}
@@ -19,7 +20,8 @@ use Rattle.steps.specs.Runs.{Closes}
 use Rattle.steps.specs.Trace.{Line, lineOf, trace}
 
 module _ (speaks : ℕ → ℕ → Bool) (limit : ℕ) (es : List Entry) where
-  -- The words ws from place p to place q prove os and no more, and give these lines, whatever words and obligations follow.
+  -- The words ws from place p to place q prove os and no more, and give these lines, whatever words and obligations
+  -- follow.
   pub record Uses (ws : List ℕ) (ls : List Line) (os : List Obligation) : Type 0 where
     pub uses : (rest : List ℕ) (p q : ℕ) (more : List Obligation)
         → q ≡ p + length ws → walk speaks limit es (ws ++ rest) p (os ++ more) ≡ walk speaks limit es rest q more

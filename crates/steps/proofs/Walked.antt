@@ -6,7 +6,7 @@ use mathlib.Core.Logic.{_↔_, _⊎_, inl, ⊎-elim}
 use mathlib.Core.List.{[], _∷_}
 use borrow.Author.Tests.{eq-eqb, ne-eqb}
 use Rattle.basics.specs.declared.place.Place.the-variants.{Nowhere}
-use Rattle.basics.specs.declared.tested.Tested.the-variants as Tests
+use Rattle.basics.specs.declared.tested.Tested.the-variants as Outcome
 use Rattle.basics.specs.Choice.{pick}
 use Rattle.basics.specs.Membership.{_∈_}
 use Rattle.basics.specs.Refusals.{firstRefusal}
@@ -40,15 +40,15 @@ walked-follows v range = one-of (row 9 7) [] (walked v) [] (walked-number v rang
 
 -- ---- as code makes it: the first refusal of a list with nothing else
 
-pub walk-refused : {v : WalkVerdict} {number p : ℕ} → v ≡ Refused number p → Tests.Refused number p ≡ firstRefusal (walked v ∷ [])
+pub walk-refused : {v : WalkVerdict} {number p : ℕ} → v ≡ Refused number p → Outcome.Refused number p ≡ firstRefusal (walked v ∷ [])
 walk-refused {number = number} {p = p} e = sym (applies number [] refl) ∙ ap (λ (w : WalkVerdict). firstRefusal (walked w ∷ [])) (sym e)
 
 -- 15, by where the last proof ends: words remain, or none does.
 module _ (q n : ℕ) where
-  pub words-remain : q < n → Tests.Refused 15 q ≡ firstRefusal (walked (allUsed n (Closed q)) ∷ [])
+  pub words-remain : q < n → Outcome.Refused 15 q ≡ firstRefusal (walked (allUsed n (Closed q)) ∷ [])
   words-remain less = walk-refused (ap (λ b. pick b (Closed q) (Refused 15 q)) (ne-eqb q n (λ z. absurd (omega arith))))
 
-  pub none-remains : q ≤ n → n ≤ q → Tests.Passed ≡ firstRefusal (walked (allUsed n (Closed q)) ∷ [])
+  pub none-remains : q ≤ n → n ≤ q → Outcome.Passed ≡ firstRefusal (walked (allUsed n (Closed q)) ∷ [])
   none-remains within all =
       sym
       (goes-on 15 [] refl ∙ none-left)

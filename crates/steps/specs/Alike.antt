@@ -1,5 +1,6 @@
--- "Hypotheses are truths and form a set" (01): the machine asks of the hypotheses only which numbers are among them, so obligations that differ
--- in nothing else get one verdict. And what a refusal of the machine can be. Proved in proofs/Alike.antt. Assumes nothing.
+-- "Hypotheses are truths and form a set" (01): the machine asks of the hypotheses only which numbers are among them, so
+-- obligations that differ in nothing else get one verdict. And what a refusal of the machine can be. Proved in
+-- proofs/Alike.antt. Assumes nothing.
 use Prim.Native.Nat.{ℕ, _≤_}
 use mathlib.Core.Bool.{Bool}
 use mathlib.Core.Path.{_≡_}

@@ -1,6 +1,6 @@
--- What the check of proofs answers, for every table, good or bad, every list of statements, all goals' numbers and all step words: the
--- machine's verdict (tests 9 to 14) on the truth of each goal from the statements. Closed has the number of words used; words after them are
--- not looked at, so that a caller can hand over a tail. Assumes nothing.
+-- What the check of proofs answers, for every table, good or bad, every list of statements, all goals' numbers and all
+-- step words: the machine's verdict (tests 9 to 14) on the truth of each goal from the statements. Closed has the
+-- number of words used; words after them are not looked at, so that a caller can hand over a tail. Assumes nothing.
 use Prim.Native.Nat.{ℕ, _≤_}
 use mathlib.Core.Path.{_≡_}
 use mathlib.Core.Logic.{_↔_}
@@ -23,8 +23,9 @@ proofAnswer heads seconds statements goal steps = walk (entries heads seconds) s
 abbrev pub proofsAnswer : List ℕ → List ℕ → List ℕ → List ℕ → List ℕ → WalkVerdict
 proofsAnswer heads seconds statements goals steps = walk (entries heads seconds) steps 0 (obligations statements goals)
 
--- Over a table that passes 2, 4 and 5, with statements and goals below F (6 and 7), closed with q says that the first q words are those of
--- derivations of the goals from the statements, one after another in order, no step of them deeper than 512. Proved in proofs/Answer.antt.
+-- Over a table that passes 2, 4 and 5, with statements and goals below F (6 and 7), closed with q says that the first q
+-- words are those of derivations of the goals from the statements, one after another in order, no step of them deeper
+-- than 512. Proved in proofs/Answer.antt.
 abbrev pub ClosedAreDerivations : Type 0
 ClosedAreDerivations =
     (heads seconds statements goals steps : List ℕ) (q : ℕ)

@@ -1,5 +1,6 @@
--- "Its step words are, word for word, those of derivations for every position in the order above, with nothing between them and nothing
--- after", and "no step of these proofs is deeper than 10 allows" (01, for exchange files; a record has one derivation). Assumes nothing.
+-- "Its step words are, word for word, those of derivations for every position in the order above, with nothing between
+-- them and nothing after", and "no step of these proofs is deeper than 10 allows" (01, for exchange files; a record has
+-- one derivation). Assumes nothing.
 use Prim.Native.Nat.{ℕ, _≤_, _<_}
 use mathlib.Core.Path.{_≡_}
 use mathlib.Core.List.{List, [], _∷_, _++_}
@@ -22,7 +23,8 @@ abbrev pub judgment : List Entry → Goal → Judgment
 judgment es (True f) = truth (spell es (f .0))
 judgment es (Affirms k f) = k .0 affirms spell es (f .0)
 
--- A derivation of an obligation: no step is deeper than the limit, and ws begins with its words, after which `rest` follows.
+-- A derivation of an obligation: no step is deeper than the limit, and ws begins with its words, after which `rest`
+-- follows.
 pub record Proved (R : Relation) (limit : ℕ) (es : List Entry) (o : Obligation) (ws rest : List ℕ) : Type 0 where
   pub derivation : Derivation R (spellAll es (o .hypotheses)) (judgment es (o .goal))
   pub within : (d : ℕ) → d ∈ stepDepths (o .depth) derivation → d ≤ limit

@@ -1,5 +1,5 @@
--- The machine of document 01 itself: "the same K" for code 11, and depth at most 512. Records, exchanges and code cite it from here.
--- Proved in proofs/Figure1.antt. Assumes nothing.
+-- The machine of document 01 itself: "the same K" for code 11, and depth at most 512. Records, exchanges and code cite
+-- it from here. Proved in proofs/Figure1.antt. Assumes nothing.
 use Prim.Native.Nat.{ℕ, _≤_}
 use mathlib.Core.Bool.{Bool}
 use mathlib.Core.Path.{_≡_}
@@ -74,7 +74,8 @@ abbrev pub RefusedWhere : Type 0
 RefusedWhere =
     (es : List Entry) (ws : List ℕ) (os : List Obligation) (number p : ℕ) → run es ws os ≡ Refused number p ↔ Stop es ws os number p
 
--- In a table that passes 2, 4 and 5, for obligations whose numbers are below F (6 and 7), the machine closes on exactly the words of derivations.
+-- In a table that passes 2, 4 and 5, for obligations whose numbers are below F (6 and 7), the machine closes on exactly
+-- the words of derivations.
 abbrev pub RunsAreDerivations : Type 0
 RunsAreDerivations =
     (heads seconds : List ℕ) → tableTests heads seconds ≡ Passed

@@ -1,5 +1,6 @@
--- The meaning of step words: one machine for tests 9 to 15 of document 01, the words of a derivation, the theorem that the machine closes
--- on exactly these, and the trace of a run. Definitions, then the statements of theorems, to be read in this order. The proofs are in proofs/.
+-- The meaning of step words: one machine for tests 9 to 15 of document 01, the words of a derivation, the theorem that
+-- the machine closes on exactly these, and the trace of a run. Definitions, then the statements of theorems, to be read
+-- in this order. The proofs are in proofs/.
 pub mod Obligation
 pub mod Needs
 pub mod Rules

@@ -1,5 +1,6 @@
--- What a rule needs of a goal and of an entry: the goal or the entry of that kind hands its parts on, and any other is refused 13,
--- "the goal isn't what the rule needs .., the named formula isn't of the kind the rule needs" (01). Assumes nothing.
+-- What a rule needs of a goal and of an entry: the goal or the entry of that kind hands its parts on, and any other is
+-- refused 13, "the goal isn't what the rule needs .., the named formula isn't of the kind the rule needs" (01). Assumes
+-- nothing.
 use Rattle.table.specs.declared.entry.Formula.{Formula}
 use Rattle.table.specs.declared.entry.Principal.{Principal}
 use Rattle.table.specs.declared.entry.Entry.{Entry}

@@ -1,5 +1,6 @@
--- An obligation: what is still to be proved. Hypotheses are formula numbers, in the order in which they came. "The first step has depth 1,
--- a premise's step one more than its conclusion's." (01) Goal, Premise and Added are the code's own types. Assumes nothing.
+-- An obligation: what is still to be proved. Hypotheses are formula numbers, in the order in which they came. "The
+-- first step has depth 1, a premise's step one more than its conclusion's." (01) Goal, Premise and Added are the code's
+-- own types. Assumes nothing.
 use Prim.Native.Nat.{ℕ, suc}
 use mathlib.Core.List.{List, [], _∷_, _++_, map}
 use Rattle.table.specs.Entry.{formula}
@@ -18,7 +19,8 @@ pub record Obligation : Type 0 where
 abbrev pub obligation : List ℕ → ℕ → Obligation
 obligation statements n = record { hypotheses = statements; goal = True (formula n); depth = 1 }
 
--- A proof of each of these formulas, from the same statements, "in order .. one for every position" (01, "The exchange file").
+-- A proof of each of these formulas, from the same statements, "in order .. one for every position" (01, "The exchange
+-- file").
 abbrev pub obligations : List ℕ → List ℕ → List Obligation
 obligations statements goals = map (obligation statements) goals
 

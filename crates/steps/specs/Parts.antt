@@ -1,5 +1,5 @@
--- The walk part by part: what the code of a walk, and a check of one proof after another, lean on. Proved in proofs/Parts.antt and Prefix.antt.
--- Assumes nothing.
+-- The walk part by part: what the code of a walk, and a check of one proof after another, lean on. Proved in
+-- proofs/Parts.antt and Prefix.antt. Assumes nothing.
 use Prim.Native.Nat.{ℕ, _+_, _≤_}
 use mathlib.Core.Bool.{Bool}
 use mathlib.Core.Path.{_≡_}

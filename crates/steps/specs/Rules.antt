@@ -1,5 +1,6 @@
--- 01's table of rules, row by row, over formula numbers. `entryAt es` gives the entry of a number, n is the named formula's number, and g the goal.
--- Above each rule stands its row: code, name, goal below, named hypothesis, premises in order. Assumes nothing.
+-- 01's table of rules, row by row, over formula numbers. `entryAt es` gives the entry of a number, n is the named
+-- formula's number, and g the goal. Above each rule stands its row: code, name, goal below, named hypothesis, premises
+-- in order. Assumes nothing.
 --
 -- `speaks` is the one place where principals are compared: 01 has "the same K" (Figure1.antt).
 use Prim.Native.Nat.{ℕ}

@@ -34,8 +34,8 @@ walked (Closed p) = test 15 Nowhere
 walked (Refused number p) = test number (At p)
 
 module _ (speaks : ℕ → ℕ → Bool) (limit : ℕ) (es : List Entry) where
-  -- "Tests 9 to 14 run in this order at each step, steps in file order": from place p, closed with the place after the last word used.
-  -- "9. The steps end while a premise is open or a whole proof is still due (place N)."
+  -- "Tests 9 to 14 run in this order at each step, steps in file order": from place p, closed with the place after the
+  -- last word used. "9. The steps end while a premise is open or a whole proof is still due (place N)."
   -- "Each step is followed by all of its first premise, then its second."
   unfoldable pub walk : List ℕ → ℕ → List Obligation → WalkVerdict
   walk [] p [] = Closed p

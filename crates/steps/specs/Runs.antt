@@ -1,5 +1,5 @@
--- Runs are derivations: the theorem behind demands 2 and 3, for a test on principals and the relation that it decides, and for any limit on
--- depth. Proved in proofs/Runs.antt. Assumes nothing.
+-- Runs are derivations: the theorem behind demands 2 and 3, for a test on principals and the relation that it decides,
+-- and for any limit on depth. Proved in proofs/Runs.antt. Assumes nothing.
 use Prim.Native.Nat.{ℕ, _≤_}
 use mathlib.Core.Bool.{Bool, true}
 use mathlib.Core.Path.{_≡_}

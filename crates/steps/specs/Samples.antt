@@ -1,5 +1,6 @@
--- The steps of the samples of document 01 over the machine, as one table, and what its order of tests means where several apply. The whole
--- records and exchanges come with their own crates. Proved in proofs/Samples.antt, by computation. Assumes nothing.
+-- The steps of the samples of document 01 over the machine, as one table, and what its order of tests means where
+-- several apply. The whole records and exchanges come with their own crates. Proved in proofs/Samples.antt, by
+-- computation. Assumes nothing.
 use Prim.Native.Nat.{ℕ}
 use mathlib.Core.Path.{_≡_}
 use mathlib.Core.List.{List, [], _∷_, _++_, map}
@@ -15,7 +16,8 @@ use Rattle.steps.specs.Obligation.{Obligation, obligation}
 use Rattle.steps.specs.Trace.{Line, line}
 use Rattle.steps.specs.Figure1.{run, trace}
 
--- A row of a table of samples: what is to be proved, the step words, and the verdict. (01's "granted" comes with the record; here it is closed.)
+-- A row of a table of samples: what is to be proved, the step words, and the verdict. (01's "granted" comes with the
+-- record; here it is closed.)
 pub record Sample : Type 0 where
   pub obligations : List Obligation
   pub steps : List ℕ
@@ -53,11 +55,12 @@ table =
 abbrev pub Samples : Type 0
 Samples = Hold T table
 
--- "Tests 9 to 14 run in this order at each step": where two apply, the first counts. In order: 11 before 12 (an unknown code with a part
--- that is not held; a part of F or more in a rule that names nothing), 12 before 13 (init of what is not held, for a says-formula; of a
--- number of F or more, which "never is" a hypothesis, even where a statement has it), 12 before 14, 13 before 14 (says left of an atom, on a
--- truth); init on an affirmation, and of a says-formula; affirm on a truth; says left of what is not held, on an affirmation; the largest
--- word; and a goal of F or more, which is ill-formed.
+-- "Tests 9 to 14 run in this order at each step": where two apply, the first counts. In order: 11 before 12 (an unknown
+-- code with a part that is not held; a part of F or more in a rule that names nothing), 12 before 13 (init of what is
+-- not held, for a says-formula; of a number of F or more, which "never is" a hypothesis, even where a statement has
+-- it), 12 before 14, 13 before 14 (says left of an atom, on a truth); init on an affirmation, and of a says-formula;
+-- affirm on a truth; says left of what is not held, on an affirmation; the largest word; and a goal of F or more, which
+-- is ill-formed.
 abbrev pub order : List Sample
 order =
     sample [] 0 (49153 ∷ []) (Refused 11 0)
@@ -78,8 +81,9 @@ order =
 abbrev pub Order : Type 0
 Order = Hold T order
 
--- "Depth 512 passes and 513 is refused 10". The table is atom 0, and atom 0 and atom 0; statement 1, goal 0; and left n times, then the last
--- words. In order: 512 deep; 513 deep; the words end at depth 513, 9 before 10; and an unknown code at depth 513, 10 before 11.
+-- "Depth 512 passes and 513 is refused 10". The table is atom 0, and atom 0 and atom 0; statement 1, goal 0; and left n
+-- times, then the last words. In order: 512 deep; 513 deep; the words end at depth 513, 9 before 10; and an unknown
+-- code at depth 513, 10 before 11.
 abbrev pub deep : ℕ → List ℕ → WalkVerdict → Sample
 deep n last verdict = sample (1 ∷ []) 0 (replicate n 24577 ++ last) verdict
 
@@ -89,9 +93,10 @@ depths = deep 511 (0 ∷ []) (Closed 512) ∷ deep 512 (0 ∷ []) (Refused 10 51
 abbrev pub Depths : Type 0
 Depths = Hold (entries (0 ∷ 12288 ∷ []) (0 ∷ 0 ∷ [])) depths
 
--- K, the exchange: "table atom 0, atom 1, their and ..: lists [2] and [0, 1], steps 24578 0 24578 1 20480 0 1: equal". Then two empty lists;
--- two proofs of which the words end in the second, or before it; a word too many between them, which is the second's first; a word after
--- the last, and after none; and O, "table atom 0, atom 1, statement 1, goal 0, step 1: refused 13 at 0".
+-- K, the exchange: "table atom 0, atom 1, their and ..: lists [2] and [0, 1], steps 24578 0 24578 1 20480 0 1: equal".
+-- Then two empty lists; two proofs of which the words end in the second, or before it; a word too many between them,
+-- which is the second's first; a word after the last, and after none; and O, "table atom 0, atom 1, statement 1, goal
+-- 0, step 1: refused 13 at 0".
 abbrev pub both : List Obligation
 both = obligation (2 ∷ []) 0 ∷ obligation (2 ∷ []) 1 ∷ []
 

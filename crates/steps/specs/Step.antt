@@ -1,5 +1,5 @@
--- One step: tests 10 to 14 in this order. "A step word is code × 4,096 + the named formula's number; where the rule names none that part
--- is 0." (01) The answer is a refusal's number, or the premises. Assumes nothing.
+-- One step: tests 10 to 14 in this order. "A step word is code × 4,096 + the named formula's number; where the rule
+-- names none that part is 0." (01) The answer is a refusal's number, or the premises. Assumes nothing.
 use Prim.Native.Nat.{ℕ}
 use mathlib.Core.Bool.{Bool}
 use mathlib.Core.List.{List, [], _∷_}
@@ -40,7 +40,8 @@ module _ (speaks : ℕ → ℕ → Bool) (es : List Entry) where
       ∷ []
 
   -- "11. The code is 12 or more, or a rule that names nothing has a part other than 0."
-  -- "12. The named formula isn't a hypothesis here; a number of F or more never is." (`holds`: "a statement that stands twice is one hypothesis")
+  -- "12. The named formula isn't a hypothesis here; a number of F or more never is." (`holds`: "a statement that stands
+  -- twice is one hypothesis")
   abbrev pub applied : Rule → List ℕ → ℕ → Goal → Opened
   applied (names rule) hypotheses n g = pick (both (ltb n (length es)) (holds hypotheses n)) (rule n g) (Refused 12)
   applied (plain rule) hypotheses n g = pick (eqb n 0) (rule g) (Refused 11)

@@ -1,5 +1,5 @@
--- Where the machine stops: what a refusal 9 to 15 says of the step words, by what the words before its place leave to prove. Proved in
--- proofs/Stops.antt. Assumes nothing.
+-- Where the machine stops: what a refusal 9 to 15 says of the step words, by what the words before its place leave to
+-- prove. Proved in proofs/Stops.antt. Assumes nothing.
 use Prim.Native.Nat.{ℕ, _<_}
 use mathlib.Core.Bool.{Bool}
 use mathlib.Core.Path.{_≡_}

@@ -1,5 +1,5 @@
--- The trace of a walk: a line for each word, with propositions as trees and no formula numbers. Proved in proofs/Trace.antt. Assumes
--- nothing.
+-- The trace of a walk: a line for each word, with propositions as trees and no formula numbers. Proved in
+-- proofs/Trace.antt. Assumes nothing.
 use Prim.Native.Nat.{ℕ, _≤_}
 use mathlib.Core.Bool.{Bool}
 use mathlib.Core.Path.{_≡_}

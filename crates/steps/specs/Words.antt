@@ -1,5 +1,5 @@
--- The words of a derivation, from 01's table alone: "The steps are the derivation from the goal upward: each step is followed by all of
--- its first premise, then its second." `number` gives the number of a proposition. Assumes nothing.
+-- The words of a derivation, from 01's table alone: "The steps are the derivation from the goal upward: each step is
+-- followed by all of its first premise, then its second." `number` gives the number of a proposition. Assumes nothing.
 use Prim.Native.Nat.{ℕ}
 use mathlib.Core.List.{List, [], _∷_, _++_}
 use Rattle.basics.specs.Word.{word}

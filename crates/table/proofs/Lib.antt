@@ -1,5 +1,5 @@
--- The theorems whose statements are in specs/, and the lemmas behind them and behind the code, here and in `table_check`. What stands above
--- leans on Shapes besides.
+-- The theorems whose statements are in specs/, and the lemmas behind them and behind the code, here and in
+-- `table_check`. What stands above leans on Shapes besides.
 pub mod Entries
 pub mod Ordered
 pub mod Spelled

@@ -13,7 +13,7 @@ use Rattle.basics.proofs.First.{no-place}
 use Rattle.table.specs.declared.entry.Formula.{Formula}
 use Rattle.table.specs.declared.entry.Entry.{Entry}
 use Rattle.table.specs.declared.entry.Entry.the-variants.{Atom, False, Implies, And, Or, Says, IllFormed}
-use Rattle.table.specs.Tests.{entryAt, below, wellFormedAt, wrongEntry}
+use Rattle.table.specs.Tests.{entryAt, lowerThan, wellFormedAt, wrongEntry}
 use Rattle.table.specs.Laws.{Ordered, NoFaultOrdered, operands, OperandsLower}
 
 pub no-fault-ordered : NoFaultOrdered
@@ -27,10 +27,10 @@ pub well-formed : (es : List Entry) → Ordered es → (i : ℕ) → i < length 
 well-formed es ordered i l e = false≢true (sym (ap (wellFormedAt i) e) ∙ ordered i l)
 
 -- one operand's number is lower, and each of two is
-lower-one : (i : ℕ) (f g : Formula) → below i g ≡ true → f ≡ g → f .0 < i
+lower-one : (i : ℕ) (f g : Formula) → lowerThan i g ≡ true → f ≡ g → f .0 < i
 lower-one i f g t e = subst (λ (h : Formula). h .0 < i) (sym e) (ltb-true (g .0) i t)
 
-lower-two : (i : ℕ) (f g h : Formula) → both (below i g) (below i h) ≡ true → f ∈ g ∷ h ∷ [] → f .0 < i
+lower-two : (i : ℕ) (f g h : Formula) → both (lowerThan i g) (lowerThan i h) ≡ true → f ∈ g ∷ h ∷ [] → f .0 < i
 lower-two i f g h t m =
     let (p, q) = both-true _ _ .0 t in
     ⊎-elim (lower-one i f g p) (λ n. lower-one i f h q (List·Memᴰ·eq-of-singleton n)) (List·Memᴰ·cases-cons m)

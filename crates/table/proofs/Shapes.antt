@@ -1,5 +1,5 @@
--- An entry's kind and its proposition's kind are the same: from the entry to the proposition (`spell-at`), and back (`spells`).
--- Assumes nothing.
+-- An entry's kind and its proposition's kind are the same: from the entry to the proposition (`spell-at`), and back
+-- (`spells`). Assumes nothing.
 use Prim.Native.Nat.{ℕ, _<_, _≤_}
 use native.Mathlib.Omega.{arith}
 use mathlib.Core.Path.{_≡_, refl, sym, ap, subst, _∙_}

@@ -1,5 +1,5 @@
--- A table in a file: two arrays of F words each have a size that 2 allows, and 4 and 5, as `check_table` makes them, stand before the other tests.
--- Assumes nothing.
+-- A table in a file: two arrays of F words each have a size that 2 allows, and 4 and 5, as `check_table` makes them,
+-- stand before the other tests. Assumes nothing.
 use Prim.Native.Nat.{ℕ, _≤_}
 use native.Mathlib.Omega.{arith}
 use mathlib.Core.Path.{_≡_, sym, _∙_}

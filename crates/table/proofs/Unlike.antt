@@ -1,4 +1,5 @@
--- 5 applies nowhere exactly when no two entries have the same head and second (specs/Laws.antt, `NotRepeated`). Assumes nothing.
+-- 5 applies nowhere exactly when no two entries have the same head and second (specs/Laws.antt, `NotRepeated`). Assumes
+-- nothing.
 use Prim.Native.Nat.{ℕ}
 use mathlib.Core.Bool.{false}
 use mathlib.Core.Path.{_≡_, sym, ap}

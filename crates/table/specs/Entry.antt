@@ -1,9 +1,9 @@
--- An entry from its head and its second: in the definitions the one place where they are taken apart, as `take_apart` of src/entry.rt does
--- it. The types, Formula, Principal, Atom and Entry, are the code's own. (Test 4 in code asks the numbers themselves, and builds none of
--- these.) Assumes nothing.
+-- An entry from its head and its second: in the definitions the one place where they are taken apart, as `take_apart`
+-- of src/entry.rt does it. The types, Formula, Principal, Atom and Entry, are the code's own. (Test 4 in code asks the
+-- numbers themselves, and builds none of these.) Assumes nothing.
 --
--- "A head is kind × 4,096 + first operand. Kinds: 0 atom (first = atom number, second 0); 1 false (both 0); 2 implies, 3 and, 4 or (two
--- formula numbers); 5 says (first = principal number, second = formula number)." (01)
+-- "A head is kind × 4,096 + first operand. Kinds: 0 atom (first = atom number, second 0); 1 false (both 0); 2 implies,
+-- 3 and, 4 or (two formula numbers); 5 says (first = principal number, second = formula number)." (01)
 use Prim.Native.Nat.{ℕ}
 use mathlib.Core.List.{List, [], _∷_}
 use lib.ListN.{getD}

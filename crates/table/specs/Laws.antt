@@ -1,5 +1,5 @@
--- What tests 4 and 5 give. Each statement is proved in proofs/ under its name in small letters; what stands above this crate uses
--- these and not the tests' definitions. Assumes nothing.
+-- What tests 4 and 5 give. Each statement is proved in proofs/ under its name in small letters; what stands above this
+-- crate uses these and not the tests' definitions. Assumes nothing.
 use Prim.Native.Nat.{ℕ, _<_, _≤_}
 use mathlib.Core.Bool.{true}
 use mathlib.Core.Path.{_≡_}
@@ -70,7 +70,8 @@ pub record Good (heads seconds : List ℕ) : Type 0 where
 abbrev pub PassedIsGood : Type 0
 PassedIsGood = (heads seconds : List ℕ) → tableTests heads seconds ≡ Passed → Good heads seconds
 
--- Two numbers below F with the same proposition are equal, and the number of a proposition is the number that spells it.
+-- Two numbers below F with the same proposition are equal, and the number of a proposition is the number that spells
+-- it.
 abbrev pub OneNumber : Type 0
 OneNumber =
     (es : List Entry) → Ordered es → Distinct es → (i j : ℕ) → i < length es → j < length es → spell es i ≡ spell es j → i ≡ j

@@ -1,5 +1,5 @@
--- What a refusal by 4 or 5 says of a table: its number, its place p, and the reason. `IsFirst fault n p`: p is below n and has the fault, and no place
--- before it has it. Assumes nothing.
+-- What a refusal by 4 or 5 says of a table: its number, its place p, and the reason. `IsFirst fault n p`: p is below n
+-- and has the fault, and no place before it has it. Assumes nothing.
 use Prim.Native.Nat.{ℕ}
 use mathlib.Core.Bool.{not}
 use mathlib.Core.Path.{_≡_}

@@ -1,5 +1,5 @@
--- The samples of document 01 as far as they are about tables, and where two tests apply. Proved in proofs/Samples.antt, by computation.
--- Assumes nothing.
+-- The samples of document 01 as far as they are about tables, and where two tests apply. Proved in proofs/Samples.antt,
+-- by computation. Assumes nothing.
 use Prim.Native.Nat.{ℕ}
 use mathlib.Core.Bool.{true, false}
 use mathlib.Core.Path.{_≡_}
@@ -22,9 +22,10 @@ pub record Sample : Type 0 where
 abbrev pub sample : List ℕ → List ℕ → Tested → Sample
 sample heads seconds answer = record { heads = heads; seconds = seconds; answer = answer }
 
--- In order: table T; M, "a table of entries 0 and 0"; N, "first entry 20487 with second 0"; the table of K; each kind once; no entry;
--- arrays of unlike length; kind 6; an atom with a second; false with a first operand; an operand that is the entry's own number; a second of 65,535;
--- a repeated entry at 2 and a wrong one at 3, 4 before 5; and the first of two repeated entries.
+-- In order: table T; M, "a table of entries 0 and 0"; N, "first entry 20487 with second 0"; the table of K; each kind
+-- once; no entry; arrays of unlike length; kind 6; an atom with a second; false with a first operand; an operand that
+-- is the entry's own number; a second of 65,535; a repeated entry at 2 and a wrong one at 3, 4 before 5; and the first
+-- of two repeated entries.
 abbrev pub table : List Sample
 table =
     sample (0 ∷ 20487 ∷ 20488 ∷ []) (0 ∷ 0 ∷ 0 ∷ []) Passed

@@ -1,7 +1,7 @@
--- The proposition that an entry spells out. "A formula is a finite tree of the kinds above"; "each number stands for the formula that its
--- entry spells out" (01). Total, and no fuel: entries are read from the front, and each looks its operands up in what is already made. A
--- number with no entry and an ill-formed entry spell false, and so does an operand that is not lower, where it is looked up; under test 4
--- there is none of these. Assumes nothing.
+-- The proposition that an entry spells out. "A formula is a finite tree of the kinds above"; "each number stands for
+-- the formula that its entry spells out" (01). Total, and no fuel: entries are read from the front, and each looks its
+-- operands up in what is already made. A number with no entry and an ill-formed entry spell false, and so does an
+-- operand that is not lower, where it is looked up; under test 4 there is none of these. Assumes nothing.
 use Prim.Native.Nat.{ℕ}
 use mathlib.Core.List.{List, [], _∷_, _++_, map}
 use lib.ListN.{getD}

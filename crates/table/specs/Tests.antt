@@ -27,16 +27,16 @@ abbrev pub entryAt : List Entry → ℕ → Entry
 entryAt es n = getD es n IllFormed
 
 -- "An operand that is a formula has a lower number than the entry that uses it."
-abbrev pub below : ℕ → Formula → Bool
-below i f = ltb (f .0) i
+abbrev pub lowerThan : ℕ → Formula → Bool
+lowerThan i f = ltb (f .0) i
 
 abbrev pub wellFormedAt : ℕ → Entry → Bool
 wellFormedAt i (Atom a) = true
 wellFormedAt i False = true
-wellFormedAt i (Implies f g) = both (below i f) (below i g)
-wellFormedAt i (And f g) = both (below i f) (below i g)
-wellFormedAt i (Or f g) = both (below i f) (below i g)
-wellFormedAt i (Says k f) = below i f
+wellFormedAt i (Implies f g) = both (lowerThan i f) (lowerThan i g)
+wellFormedAt i (And f g) = both (lowerThan i f) (lowerThan i g)
+wellFormedAt i (Or f g) = both (lowerThan i f) (lowerThan i g)
+wellFormedAt i (Says k f) = lowerThan i f
 wellFormedAt i IllFormed = false
 
 -- "4. An entry has kind 6 or more or a wrong operand (place: the first such entry)."

@@ -49,8 +49,9 @@ module _ (hs ss : List ℕ) (roots : ℕ) (slots : List ℕ) (i : ℕ) where
       let (p, q) = both-true (eqb (getD hs i 0) (getD hs k 0)) (eqb (getD ss i 0) (getD ss k 0)) .0 e in
       rw (eqb-true (getD hs i 0) (getD hs k 0) p, eqb-true (getD ss i 0) (getD ss k 0) q) m
 
-  -- The search for entry i has come to slot p, which holds a link, with the bits x: an earlier entry that is the same is met from there. And
-  -- entry i is found where it is met from there, once it is written into a slot e that is empty yet.
+  -- The search for entry i has come to slot p, which holds a link, with the bits x: an earlier entry that is the same
+  -- is met from there. And entry i is found where it is met from there, once it is written into a slot e that is empty
+  -- yet.
   pub record Searched (p x link : ℕ) : Type 0 where
     pub holds : link ≡ getD slots p 0
     pub earlier : link ≤ i

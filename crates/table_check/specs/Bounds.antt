@@ -1,5 +1,5 @@
--- Test 4 by numbers: what the operands of each kind are below in an entry that is well-formed at number i. Only private functions of src/order.rt
--- speak of this; what test 4 answers is `wrongEntry` of `table`. Assumes nothing.
+-- Test 4 by numbers: what the operands of each kind are below in an entry that is well-formed at number i. Only private
+-- functions of src/order.rt speak of this; what test 4 answers is `wrongEntry` of `table`. Assumes nothing.
 use Prim.Native.Nat.{ℕ}
 use lib.Dec.{eqb, ltb}
 use Rattle.basics.specs.Choice.{pick}

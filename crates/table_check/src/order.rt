@@ -37,8 +37,9 @@ fn second_bound(kind: u16, i: usize) -> usize
     }
 }
 
-// Whether the entry of a head and second is well-formed at number i. It is asked of the numbers, without a jump to the kind's own code, which a
-// processor can't foresee in a table of mixed kinds; no formula, principal or atom is made of them.
+// Whether the entry of a head and second is well-formed at number i. It is asked of the numbers, without a jump to the
+// kind's own code, which a processor can't foresee in a table of mixed kinds; no formula, principal or atom is made of
+// them.
 fn is_well_formed(i: usize, head: u16, second: u16) -> bool
     ensures { λ r. ⌜ r ≡ wellFormedAt i (entry head second) ⌝ }
 {
@@ -47,8 +48,9 @@ fn is_well_formed(i: usize, head: u16, second: u16) -> bool
     (first as usize) < first_bound(kind, i) && (second as usize) < second_bound(kind, i)
 }
 
-// "4. An entry has kind 6 or more or a wrong operand (place: the first such entry)." Of arrays of unlike length, as far as both go.
-pub fn wrong_entry(heads: &[u16], seconds: &[u16]) -> Place
+// "4. An entry has kind 6 or more or a wrong operand (place: the first such entry)." Of arrays of unlike length, as far
+// as both go.
+pub(crate) fn wrong_entry(heads: &[u16], seconds: &[u16]) -> Place
     ensures { λ r. ⌜ r ≡ wrongEntry (entries (now (heads .entry)) (now (seconds .entry))) ⌝ }
 {
     let mut i = 0;

@@ -1,6 +1,6 @@
-// Test 5: no entry has the head and second of an earlier one. The entries so far stand in digital search trees: below an entry, the next
-// bit of a key tells which way to go. No path is longer than the 32 bits of a key, since two unlike keys part within them. So the time is
-// linear in the number of entries, whatever the table.
+// Test 5: no entry has the head and second of an earlier one. The entries so far stand in digital search trees: below
+// an entry, the next bit of a key tells which way to go. No path is longer than the 32 bits of a key, since two unlike
+// keys part within them. So the time is linear in the number of entries, whatever the table.
 ghost use Prim.Native.Nat.{_+_, _<_, _≤_};
 ghost use mathlib.Core.Bool.{not, true};
 ghost use mathlib.Core.Path.{_≡_};
@@ -43,8 +43,9 @@ fn are_same(heads: &[u16], seconds: &[u16], i: usize, j: usize) -> bool
     heads[i] == heads[j] && seconds[i] == seconds[j]
 }
 
-// Takes entry i into the index, unless an earlier entry has its head and second: then false. The first `roots` slots lead to the trees, then
-// two for each entry lead on from it. A link is one more than the number of an entry, or 0 for none.
+// Takes entry i into the index, unless an earlier entry has its head and second: then false. The first `roots` slots
+// lead to the trees, then two for each entry lead on from it. A link is one more than the number of an entry, or 0 for
+// none.
 fn take_in(heads: &[u16], seconds: &[u16], slots: &mut [u16], roots: usize, i: usize) -> bool
     requires { ⌜ Within (now heads) (now seconds) i × Indexed (now heads) (now seconds) roots (now slots) i ⌝ }
     ensures { λ r. ⌜ r ≡ not (found (first (same (now (heads .entry)) (now (seconds .entry)) i) i)) ⌝ }

@@ -1,5 +1,5 @@
--- The promises of specs/Decimal.antt, from two equations: a number below 10 is one digit, and any other is its tens and then one digit.
--- Assumes nothing.
+-- The promises of specs/Decimal.antt, from two equations: a number below 10 is one digit, and any other is its tens and
+-- then one digit. Assumes nothing.
 use Prim.Native.Nat.{ℕ, zero, suc, _+_, _-_, _*_, _/_, _%_, _^_, _≤_, _<_}
 use native.Mathlib.Nat.{div-eq-of-lt, div-lt-iff-lt-mul, pow-suc}
 use native.Mathlib.Omega.{arith}

@@ -1,4 +1,5 @@
--- The bytes of a text in quotes, so that a definition can say what a program prints. Proved in proofs/Ascii.antt. Assumes nothing.
+-- The bytes of a text in quotes, so that a definition can say what a program prints. Proved in proofs/Ascii.antt.
+-- Assumes nothing.
 use Prim.Native.Nat.{ℕ}
 use Prim.Native.Char.{code}
 use Prim.Native.String.{String, [], _∷_, _++_}

@@ -1,4 +1,5 @@
--- A number in decimal, as the bytes of its digits in ASCII: 48 for 0 to 57 for 9. Proved in proofs/Digits.antt. Assumes nothing.
+-- A number in decimal, as the bytes of its digits in ASCII: 48 for 0 to 57 for 9. Proved in proofs/Digits.antt. Assumes
+-- nothing.
 use Prim.Native.Nat.{ℕ, zero, suc, _+_, _-_, _*_, _/_, _%_, _^_, _≤_, _<_}
 use mathlib.Core.Path.{_≡_}
 use mathlib.Core.List.{List, [], _∷_, _++_, List·Memᴰ}

@@ -1,12 +1,13 @@
--- Where text ends that is written into lent bytes from a place on, as far as there is room; what stands there then is `writtenAt` of the crate
--- lent. Proved in proofs/Places.antt. Assumes nothing.
+-- Where text ends that is written into lent bytes from a place on, as far as there is room; what stands there then is
+-- `writtenAt` of the crate lent. Proved in proofs/Places.antt. Assumes nothing.
 use Prim.Native.Nat.{ℕ, _+_, _-_, _≤_, min}
 use mathlib.Core.Path.{_≡_}
 use mathlib.Core.List.{List, _++_}
 use lib.ListN.{length}
 use Rattle.basics.specs.Written.{writtenAt}
 
--- The place after the last byte written: p and as many as there are new ones, or as there is room for. Past the end there is no room.
+-- The place after the last byte written: p and as many as there are new ones, or as there is room for. Past the end
+-- there is no room.
 abbrev pub placeAfter : List ℕ → ℕ → List ℕ → ℕ
 placeAfter old p new = p + min (length new) (length old - p)
 

@@ -1,5 +1,5 @@
--- Samples of texts, of numbers in decimal, and of text that has room and that has none. Proved in proofs/Samples.antt, by computation.
--- Assumes nothing.
+-- Samples of texts, of numbers in decimal, and of text that has room and that has none. Proved in proofs/Samples.antt,
+-- by computation. Assumes nothing.
 use mathlib.Core.Path.{_≡_}
 use mathlib.Core.List.{[], _∷_, map}
 use Rattle.basics.specs.Written.{writtenAt}

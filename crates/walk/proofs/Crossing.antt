@@ -1,4 +1,5 @@
--- Where a rule leads from a truth to an affirmation or back, as 10, 1 and 3 do, its first premise adds nothing. Assumes nothing.
+-- Where a rule leads from a truth to an affirmation or back, as 10, 1 and 3 do, its first premise adds nothing. Assumes
+-- nothing.
 use Prim.Native.Nat.{ℕ}
 use mathlib.Core.Bool.{Bool}
 use mathlib.Core.Path.{_≡_, refl}

@@ -1,5 +1,5 @@
--- Laws of many goals from one list of statements: the next goal's proof is checked in the tail of the step words, from the last proof's end,
--- and its places count from there. Assumes nothing.
+-- Laws of many goals from one list of statements: the next goal's proof is checked in the tail of the step words, from
+-- the last proof's end, and its places count from there. Assumes nothing.
 use Prim.Native.Nat.{ℕ, suc, _+_, _-_, _<_, _≤_}
 use native.Mathlib.Nat.{add-comm, zero-add}
 use native.Mathlib.Numerals.{add-one}

@@ -1,4 +1,5 @@
--- Laws of the walk: what the code answers at a word is the machine's answer, from what its premises answer. Assumes nothing.
+-- Laws of the walk: what the code answers at a word is the machine's answer, from what its premises answer. Assumes
+-- nothing.
 use Prim.Native.Nat.{ℕ, suc, _+_, _<_, _≤_}
 use native.Mathlib.Omega.{arith}
 use native.Mathlib.Numerals.{add-one}

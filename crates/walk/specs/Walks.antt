@@ -1,4 +1,5 @@
--- What the walk of the code stands for: an obligation of the machine, with hypotheses that the slots hold. Assumes nothing.
+-- What the walk of the code stands for: an obligation of the machine, with hypotheses that the slots hold. Assumes
+-- nothing.
 use Prim.Native.Nat.{ℕ, _+_, _<_}
 use mathlib.Core.Bool.{Bool}
 use mathlib.Core.Path.{_≡_}
@@ -53,8 +54,9 @@ abbrev pub Forward : ℕ → Walked → Type 0
 Forward next (Done v) = next < v .next
 Forward next (Refused number place) = Unit
 
--- The answer r is the machine's, for walk w and the obligation o from word next on, whatever hypotheses the slots hold. (Slots that hold no
--- list of w's count leave r free. `check_goal` is called with slots that hold the statements, so its contract has no such case.)
+-- The answer r is the machine's, for walk w and the obligation o from word next on, whatever hypotheses the slots hold.
+-- (Slots that hold no list of w's count leave r free. `check_goal` is called with slots that hold the statements, so
+-- its contract has no such case.)
 pub record Answers (es : List Entry) (steps : List ℕ) (slots : List Bool) (w : Walk) (next : ℕ) (o : List ℕ → Obligation) (r : Walked) : Type 0 where
   pub answer : (hypotheses : List ℕ) → Held hypotheses slots (w .held)
       → r ≡ outcome w (walkFrom same mostDepth es steps next (o hypotheses ∷ []))

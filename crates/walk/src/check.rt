@@ -11,7 +11,8 @@ use steps::goal::Goal;
 use steps::verdict::WalkVerdict;
 use table::entry::goal_formula;
 
-// The machine's verdict on the step words from the first on, for the goal's truth from the statements, which the slots hold.
+// The machine's verdict on the step words from the first on, for the goal's truth from the statements, which the slots
+// hold.
 fn check_goal(
     heads: &[u16],
     seconds: &[u16],
@@ -36,8 +37,8 @@ fn check_goal(
     }
 }
 
-// The same for each goal in order: "The exchange check hands the tail of the step words, from the last proof's end, to the proof checker." (01)
-// Places in a tail count from its start.
+// The same for each goal in order: "The exchange check hands the tail of the step words, from the last proof's end, to
+// the proof checker." (01) Places in a tail count from its start.
 fn check_goals(
     heads: &[u16],
     seconds: &[u16],
@@ -64,9 +65,10 @@ fn check_goals(
     WalkVerdict::Closed(at)
 }
 
-// The machine's verdict on the step words from the first on, for the truth of each goal from the statements: closed with the number of words
-// used, or refused. Of 01's list it makes tests 9 to 14. Where 2 and 4 to 7 have passed, closed means proofs (ClosedAreDerivations). It is for
-// the check of exchanges: the slots are cleared and the statements held once, not once a goal, so its time is linear in the words.
+// The machine's verdict on the step words from the first on, for the truth of each goal from the statements: closed
+// with the number of words used, or refused. Of 01's list it makes tests 9 to 14. Where 2 and 4 to 7 have passed,
+// closed means proofs (ClosedAreDerivations). It is for the check of exchanges: the slots are cleared and the
+// statements held once, not once a goal, so its time is linear in the words.
 pub fn check_proofs(
     heads: &[u16],
     seconds: &[u16],
@@ -81,7 +83,8 @@ pub fn check_proofs(
     check_goals(heads, seconds, statements, &mut slots, goals, steps)
 }
 
-// The same with one goal. Closed means a proof of it (ClosedIsDerivation); the check of records makes tests 2 and 4 to 7 first, and 15 last.
+// The same with one goal. Closed means a proof of it (ClosedIsDerivation); the check of records makes tests 2 and 4 to
+// 7 first, and 15 last.
 pub fn check_proof(
     heads: &[u16],
     seconds: &[u16],

@@ -1,5 +1,6 @@
-// The walk: "The state of the walk is handed on from step to step: next word, depth, hypotheses held." (01) One function checks a truth, one
-// an affirmation; they call each other at rules 10, 1 and 3, and the words that are left fall.
+// The walk: "The state of the walk is handed on from step to step: next word, depth, hypotheses held." (01) One
+// function checks a truth, one an affirmation; they call each other at rules 10, 1 and 3, and the words that are left
+// fall.
 ghost use mathlib.Core.Path.{_≡_};
 ghost use Prim.Native.Nat.{_+_, _*_, _-_, _<_, _^_};
 ghost use lib.ListN.{length};

@@ -63,21 +63,43 @@ fn page<T: Kind>(
     refusal: impl Fn(usize) -> Option<(&'static str, &'static str)>,
     sections: &[Section<T>],
 ) -> String {
-    let mut text = format!("{head}\n| number | reason | place |\n|---|---|---|\n");
+    let mut text = format!("{head}\n");
     for number in 1..=REFUSALS.len() {
         if let Some((reason, place)) = refusal(number) {
-            writeln!(text, "| {number} | {reason} | {place} |").unwrap();
+            let item = format!("- {number}: {reason} Place: {place}.");
+            writeln!(text, "{}", filled(&item, "\n  ")).unwrap();
         }
     }
     for section in sections {
-        writeln!(text, "\n## {}\n\n{}", section.title, section.about).unwrap();
+        writeln!(text, "\n## {}\n\n{}", section.title, filled(section.about, "\n")).unwrap();
         for sample in &section.samples {
-            writeln!(text, "\n### {}\n\n{}\n\n```", sample.file_name(), sample.shows).unwrap();
+            let shows = filled(sample.shows, "\n");
+            writeln!(text, "\n### {}\n\n{shows}\n\n```", sample.file_name()).unwrap();
             for (heading, rows) in sample.contents.iter().flat_map(T::parts) {
                 text.push_str(&under(heading, rows));
             }
             writeln!(text, "line        {}\n```", sample.line).unwrap();
         }
+    }
+    text
+}
+
+/// Words in lines of at most 100 characters, with `turn` between two lines.
+fn filled(words: &str, turn: &str) -> String {
+    let mut text = String::new();
+    let mut width = 0;
+    for word in words.split_whitespace() {
+        let more = word.chars().count();
+        if text.is_empty() {
+            width = more;
+        } else if width + 1 + more <= 100 {
+            text.push(' ');
+            width += 1 + more;
+        } else {
+            text.push_str(turn);
+            width = turn.len() - 1 + more;
+        }
+        text.push_str(word);
     }
     text
 }

@@ -1,4 +1,5 @@
--- `ffi::answer_code` meets its contract: each arm gives its case of `answerCode`, and a refusal's place is within its bound. Assumes nothing.
+-- `ffi::answer_code` meets its contract: each arm gives its case of `answerCode`, and a refusal's place is within its
+-- bound. Assumes nothing.
 use borrow.Author.Needs.{needs}
 use mathlib.Core.Path.{_∙_}
 use Rattle.ffi.proofs.Tells.{granted-code, refused-code, refused-within}

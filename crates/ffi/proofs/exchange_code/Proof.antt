@@ -1,4 +1,5 @@
--- `ffi::exchange_code` meets its contract: each arm gives its case of `exchangeCode`, and a refusal's place is within its bound. Assumes nothing.
+-- `ffi::exchange_code` meets its contract: each arm gives its case of `exchangeCode`, and a refusal's place is within
+-- its bound. Assumes nothing.
 use borrow.Author.Needs.{needs}
 use mathlib.Core.Path.{_∙_}
 use Rattle.ffi.proofs.ExchangeTells.{equal-code, refused-code, refused-within}

@@ -1,4 +1,5 @@
--- `ffi::refusal_code` meets its contract: it computes `refusalCode`, and a refusal within its bounds fits 64 bits. Assumes nothing.
+-- `ffi::refusal_code` meets its contract: it computes `refusalCode`, and a refusal within its bounds fits 64 bits.
+-- Assumes nothing.
 use borrow.Author.Needs.{needs}
 use mathlib.Core.Path.{refl}
 use Rattle.ffi.proofs.refusal_code.Statement.{statement}

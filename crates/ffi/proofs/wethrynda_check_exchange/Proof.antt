@@ -1,4 +1,5 @@
--- `wethrynda_check_exchange` meets its contract: the verdict is `exchangeAnswer`'s, which is within its bounds. Assumes nothing.
+-- `wethrynda_check_exchange` meets its contract: the verdict is `exchangeAnswer`'s, which is within its bounds. Assumes
+-- nothing.
 use borrow.Author.Needs.{needs}
 use mathlib.Core.Path.{sym, ap, subst, _∙_}
 use Rattle.exchange.specs.Promises.{Small}

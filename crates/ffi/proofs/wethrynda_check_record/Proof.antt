@@ -1,4 +1,5 @@
--- `wethrynda_check_record` meets its contract: the verdict is `recordAnswer`'s, which is within its bounds. Assumes nothing.
+-- `wethrynda_check_record` meets its contract: the verdict is `recordAnswer`'s, which is within its bounds. Assumes
+-- nothing.
 use borrow.Author.Needs.{needs}
 use mathlib.Core.Path.{sym, ap, subst, _∙_}
 use Rattle.record.specs.declared.verdict.RecordVerdict.{RecordVerdict}

@@ -1,5 +1,5 @@
--- `input::read_input` meets its contract and ends. The loop's invariant: what was read lies within buf, whose length stays. The measure: the
--- bytes of buf that are left, which fall at each turn. Assumes nothing.
+-- `input::read_input` meets its contract and ends. The loop's invariant: what was read lies within buf, whose length
+-- stays. The measure: the bytes of buf that are left, which fall at each turn. Assumes nothing.
 use Prim.Native.Nat.{_≤_, _-_}
 use native.Mathlib.Omega.{arith}
 use mathlib.Core.Path.{_≡_, refl}

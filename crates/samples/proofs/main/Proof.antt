@@ -1,4 +1,5 @@
--- `samples::main` is safe and ends. The measure: the arguments that are left. Nothing has to hold from turn to turn. Assumes nothing.
+-- `samples::main` is safe and ends. The measure: the arguments that are left. Nothing has to hold from turn to turn.
+-- Assumes nothing.
 use Prim.Native.Nat.{_-_}
 use native.Mathlib.Omega.{arith}
 use borrow.Author.Needs.{needs}

@@ -1,4 +1,5 @@
--- `exchange_check::layout::check_layout` meets its contract: each size is asked and added as the layout says. Assumes nothing.
+-- `exchange_check::layout::check_layout` meets its contract: each size is asked and added as the layout says. Assumes
+-- nothing.
 use borrow.Author.Needs.{needs}
 use Rattle.exchange_check.proofs.layout.check_layout.Statement.{statement}
 use Rattle.exchange_check.proofs.layout.check_layout.Tie as tie

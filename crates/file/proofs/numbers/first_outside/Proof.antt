@@ -1,4 +1,5 @@
--- `file::numbers::first_outside` meets its contract. The loop's invariant: no number before i is F or more. Assumes nothing.
+-- `file::numbers::first_outside` meets its contract. The loop's invariant: no number before i is F or more. Assumes
+-- nothing.
 use Prim.Native.Nat.{_≤_, _-_}
 use native.Mathlib.Omega.{arith}
 use mathlib.Core.Path.{_≡_, refl, sym, _∙_}

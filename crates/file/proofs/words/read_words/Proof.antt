@@ -1,4 +1,5 @@
--- `file::words::read_words` meets its contract. The loop's invariant: the first i words of the file are written. Assumes nothing.
+-- `file::words::read_words` meets its contract. The loop's invariant: the first i words of the file are written.
+-- Assumes nothing.
 use Prim.Native.Nat.{_≤_, _/_, _-_}
 use native.Mathlib.Omega.{arith}
 use mathlib.Core.Path.{_≡_, sym}

@@ -1,4 +1,5 @@
--- `hypotheses::hypotheses::hold_added` meets its contract: each arm holds what that variant adds, one by one. Assumes nothing.
+-- `hypotheses::hypotheses::hold_added` meets its contract: each arm holds what that variant adds, one by one. Assumes
+-- nothing.
 use mathlib.Core.Path.{refl}
 use borrow.Author.Needs.{needs}
 use Rattle.hypotheses.specs.Slots.{heldAll}

@@ -1,5 +1,5 @@
--- `hypotheses::hypotheses::hold_all` meets its contract. The loop's invariant: holding the statements from position i on gives what holding
--- all of them gave at the start. Assumes nothing.
+-- `hypotheses::hypotheses::hold_all` meets its contract. The loop's invariant: holding the statements from position i
+-- on gives what holding all of them gave at the start. Assumes nothing.
 use Prim.Native.Nat.{_≤_, _-_}
 use native.Mathlib.Omega.{arith}
 use mathlib.Core.Path.{_≡_, refl, sym, _∙_}

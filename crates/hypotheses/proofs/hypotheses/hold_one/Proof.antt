@@ -1,4 +1,5 @@
--- `hypotheses::hypotheses::hold_one` meets its contract: a slot is set, and a number past the slots changes nothing. Assumes nothing.
+-- `hypotheses::hypotheses::hold_one` meets its contract: a slot is set, and a number past the slots changes nothing.
+-- Assumes nothing.
 use mathlib.Core.Bool.{false}
 use mathlib.Core.Path.{refl, sym}
 use lib.ListN.{List·getD-eq-default}

@@ -1,4 +1,5 @@
--- `hypotheses::hypotheses::release_added` meets its contract: each arm puts back what that variant saved. Assumes nothing.
+-- `hypotheses::hypotheses::release_added` meets its contract: each arm puts back what that variant saved. Assumes
+-- nothing.
 use borrow.Author.Needs.{needs}
 use Rattle.hypotheses.proofs.hypotheses.release_added.Statement.{statement}
 use Rattle.hypotheses.proofs.hypotheses.release_added.Tie as tie

@@ -1,4 +1,5 @@
--- `exchange_line::is_room` meets its contract: `equal` and its line feed have 6 bytes, and a refusal's room is measured. Assumes nothing.
+-- `exchange_line::is_room` meets its contract: `equal` and its line feed have 6 bytes, and a refusal's room is
+-- measured. Assumes nothing.
 use mathlib.Core.Path.{sym, ap, _∙_}
 use lib.Dec.{leb}
 use lib.ListN.{length}

@@ -1,4 +1,5 @@
--- `exchange_line::write_exchange_line` meets its contract: a line without room isn't written, and one with room is written whole. Assumes nothing.
+-- `exchange_line::write_exchange_line` meets its contract: a line without room isn't written, and one with room is
+-- written whole. Assumes nothing.
 use mathlib.Core.Bool.{true}
 use mathlib.Core.Path.{_≡_, sym, ap, _∙_}
 use lib.Dec.{leb}

@@ -1,4 +1,5 @@
--- `granted::fill_listed` meets its contract. The loop's invariant: the first i signers are written, each after a blank. Assumes nothing.
+-- `granted::fill_listed` meets its contract. The loop's invariant: the first i signers are written, each after a blank.
+-- Assumes nothing.
 use Prim.Native.Nat.{_-_}
 use native.Mathlib.Omega.{arith}
 use mathlib.Core.Path.{_≡_, sym, ap, _∙_}

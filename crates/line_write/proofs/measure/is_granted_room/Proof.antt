@@ -1,4 +1,5 @@
--- `measure::is_granted_room` meets its contract: what the parts of a grant's line leave tells whether it has room. Assumes nothing.
+-- `measure::is_granted_room` meets its contract: what the parts of a grant's line leave tells whether it has room.
+-- Assumes nothing.
 use borrow.Author.Needs.{needs}
 use Rattle.line_write.proofs.Room.{granted-room}
 use Rattle.line_write.proofs.measure.is_granted_room.Statement.{statement}

@@ -1,4 +1,5 @@
--- `measure::is_refused_room` meets its contract: what the parts of a refusal's line leave tells whether it has room. Assumes nothing.
+-- `measure::is_refused_room` meets its contract: what the parts of a refusal's line leave tells whether it has room.
+-- Assumes nothing.
 use borrow.Author.Needs.{needs}
 use Rattle.line_write.proofs.Room.{refused-room}
 use Rattle.line_write.proofs.measure.is_refused_room.Statement.{statement}

@@ -1,4 +1,5 @@
--- `measure::less_listed` meets its contract. The loop's invariant: the room left is what the first i signers leave. Assumes nothing.
+-- `measure::less_listed` meets its contract. The loop's invariant: the room left is what the first i signers leave.
+-- Assumes nothing.
 use Prim.Native.Nat.{_-_}
 use native.Mathlib.Omega.{arith}
 use mathlib.Core.Path.{_≡_}

@@ -1,4 +1,5 @@
--- `record_line::write_record_line` meets its contract: a line without room isn't written, and one with room is written whole. Assumes nothing.
+-- `record_line::write_record_line` meets its contract: a line without room isn't written, and one with room is written
+-- whole. Assumes nothing.
 use mathlib.Core.Bool.{true}
 use mathlib.Core.Path.{_≡_, sym, ap, _∙_}
 use lib.Dec.{leb}

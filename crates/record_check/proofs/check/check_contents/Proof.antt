@@ -1,4 +1,5 @@
--- `record_check::check::check_contents` meets its contract: the list is written only after every test has passed. Assumes nothing.
+-- `record_check::check::check_contents` meets its contract: the list is written only after every test has passed.
+-- Assumes nothing.
 use mathlib.Core.Path.{refl}
 use borrow.Author.Needs.{needs}
 use Rattle.record_check.proofs.Contents.{refused-to-8, refused-to-15, granted-by-all}

@@ -1,4 +1,5 @@
--- `record_check::check::check_sized` meets its contract: the slices that it takes out of the words are the parts of the file. Assumes nothing.
+-- `record_check::check::check_sized` meets its contract: the slices that it takes out of the words are the parts of the
+-- file. Assumes nothing.
 use native.Mathlib.Omega.{arith}
 use borrow.Author.Needs.{needs}
 use Rattle.record_check.proofs.Slices.{table-sized, Slices, slices}

@@ -1,4 +1,5 @@
--- `rules::rules::affirm` meets its contract: only an affirmation opens the truth of its formula; a truth is refused. Assumes nothing.
+-- `rules::rules::affirm` meets its contract: only an affirmation opens the truth of its formula; a truth is refused.
+-- Assumes nothing.
 use borrow.Author.Needs.{needs}
 use Rattle.rules.proofs.rules.affirm.Statement.{statement}
 use Rattle.rules.proofs.rules.affirm.Tie as tie

@@ -1,4 +1,5 @@
--- `rules::rules::and_left` meets its contract: only a conjunction opens the premises; any other entry is refused. Assumes nothing.
+-- `rules::rules::and_left` meets its contract: only a conjunction opens the premises; any other entry is refused.
+-- Assumes nothing.
 use borrow.Author.Needs.{needs}
 use Rattle.rules.proofs.OtherKind.{not-and}
 use Rattle.rules.proofs.rules.and_left.Statement.{statement}

@@ -1,5 +1,5 @@
--- `rules::rules::and_right` meets its contract: only the truth of a conjunction opens the premises; any other goal is refused. Assumes
--- nothing.
+-- `rules::rules::and_right` meets its contract: only the truth of a conjunction opens the premises; any other goal is
+-- refused. Assumes nothing.
 use borrow.Author.Needs.{needs}
 use Rattle.rules.proofs.OtherKind.{not-and}
 use Rattle.rules.proofs.rules.and_right.Statement.{statement}

@@ -1,4 +1,5 @@
--- `rules::rules::implies_left` meets its contract: only an implication opens the premises; any other entry is refused. Assumes nothing.
+-- `rules::rules::implies_left` meets its contract: only an implication opens the premises; any other entry is refused.
+-- Assumes nothing.
 use borrow.Author.Needs.{needs}
 use Rattle.rules.proofs.OtherKind.{not-implies}
 use Rattle.rules.proofs.rules.implies_left.Statement.{statement}

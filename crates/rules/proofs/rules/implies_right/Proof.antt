@@ -1,5 +1,5 @@
--- `rules::rules::implies_right` meets its contract: only the truth of an implication opens the premises; any other goal is refused.
--- Assumes nothing.
+-- `rules::rules::implies_right` meets its contract: only the truth of an implication opens the premises; any other goal
+-- is refused. Assumes nothing.
 use borrow.Author.Needs.{needs}
 use Rattle.rules.proofs.OtherKind.{not-implies}
 use Rattle.rules.proofs.rules.implies_right.Statement.{statement}

@@ -1,4 +1,5 @@
--- `rules::rules::init` meets its contract: only an atom's truth closes, where the test of the two numbers says so. Assumes nothing.
+-- `rules::rules::init` meets its contract: only an atom's truth closes, where the test of the two numbers says so.
+-- Assumes nothing.
 use native.Mathlib.Omega.{arith}
 use borrow.Author.Needs.{needs}
 use borrow.Author.Tests.{eq-eqb, ne-eqb}

@@ -1,4 +1,5 @@
--- `rules::rules::or_left` meets its contract: only a disjunction opens the premises; any other entry is refused. Assumes nothing.
+-- `rules::rules::or_left` meets its contract: only a disjunction opens the premises; any other entry is refused.
+-- Assumes nothing.
 use borrow.Author.Needs.{needs}
 use Rattle.rules.proofs.OtherKind.{not-or}
 use Rattle.rules.proofs.rules.or_left.Statement.{statement}

@@ -1,5 +1,5 @@
--- `rules::rules::or_right_first` meets its contract: only the truth of a disjunction opens the premises; any other goal is refused.
--- Assumes nothing.
+-- `rules::rules::or_right_first` meets its contract: only the truth of a disjunction opens the premises; any other goal
+-- is refused. Assumes nothing.
 use borrow.Author.Needs.{needs}
 use Rattle.rules.proofs.OtherKind.{not-or}
 use Rattle.rules.proofs.rules.or_right_first.Statement.{statement}

@@ -1,5 +1,5 @@
--- `rules::rules::says_left` meets its contract: any other entry than a says-formula is refused 13, then a truth 14, and then the test of
--- the two principals picks. Assumes nothing.
+-- `rules::rules::says_left` meets its contract: any other entry than a says-formula is refused 13, then a truth 14, and
+-- then the test of the two principals picks. Assumes nothing.
 use borrow.Author.Needs.{needs}
 use Rattle.rules.proofs.OtherKind.{not-says}
 use Rattle.rules.proofs.rules.says_left.Statement.{statement}

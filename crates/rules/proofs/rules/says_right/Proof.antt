@@ -1,5 +1,5 @@
--- `rules::rules::says_right` meets its contract: only the truth of a says-formula opens the premises; any other goal is refused. Assumes
--- nothing.
+-- `rules::rules::says_right` meets its contract: only the truth of a says-formula opens the premises; any other goal is
+-- refused. Assumes nothing.
 use borrow.Author.Needs.{needs}
 use Rattle.rules.proofs.OtherKind.{not-says}
 use Rattle.rules.proofs.rules.says_right.Statement.{statement}

@@ -1,5 +1,5 @@
--- `rules::step::apply` meets its contract: each arm of the match is one place of `rules`, and a code past the last is no rule. Assumes
--- nothing.
+-- `rules::step::apply` meets its contract: each arm of the match is one place of `rules`, and a code past the last is
+-- no rule. Assumes nothing.
 use lib.ListN.{List·getD-eq-default}
 use Rattle.table.specs.Tests.{entries}
 use Rattle.steps.specs.Step.{unknown, rules}

@@ -1,4 +1,5 @@
--- `rules::step::is_hypothesis` meets its contract: the two tests are those of the two functions that it calls. Assumes nothing.
+-- `rules::step::is_hypothesis` meets its contract: the two tests are those of the two functions that it calls. Assumes
+-- nothing.
 use Rattle.rules.proofs.step.is_hypothesis.Statement.{statement}
 use Rattle.rules.proofs.step.is_hypothesis.Tie as tie
 

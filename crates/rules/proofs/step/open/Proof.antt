@@ -1,5 +1,5 @@
--- `rules::step::open` meets its contract: the test of the depth picks, and the slots answer 12 for the rule of the code. Assumes
--- nothing.
+-- `rules::step::open` meets its contract: the test of the depth picks, and the slots answer 12 for the rule of the
+-- code. Assumes nothing.
 use native.Mathlib.Omega.{arith}
 use borrow.Author.Tests.{le-leb, lt-leb}
 use Rattle.steps.specs.Step.{step}

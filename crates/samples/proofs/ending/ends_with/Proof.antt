@@ -1,4 +1,5 @@
--- `ending::ends_with` meets its contract: a shorter name doesn't end so, and else the last part is compared. Assumes nothing.
+-- `ending::ends_with` meets its contract: a shorter name doesn't end so, and else the last part is compared. Assumes
+-- nothing.
 use mathlib.Core.Path.{sym}
 use borrow.Author.Needs.{needs}
 use Rattle.samples.proofs.Same.{too-short, last-part}

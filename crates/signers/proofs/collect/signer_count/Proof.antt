@@ -1,4 +1,5 @@
--- `signers::collect::signer_count` meets its contract: there are as many as are written, whatever the list has room for. Assumes nothing.
+-- `signers::collect::signer_count` meets its contract: there are as many as are written, whatever the list has room
+-- for. Assumes nothing.
 use borrow.Author.Needs.{needs}
 use Rattle.signers.proofs.collect.signer_count.Statement.{statement}
 use Rattle.signers.proofs.collect.signer_count.Tie as tie

@@ -1,4 +1,5 @@
--- `table::entry::entry_at` meets its contract: below both lengths it takes apart, past either there is no entry. Assumes nothing.
+-- `table::entry::entry_at` meets its contract: below both lengths it takes apart, past either there is no entry.
+-- Assumes nothing.
 use native.Mathlib.Omega.{arith}
 use mathlib.Core.Logic.{⊎-elim}
 use mathlib.Core.Path.{sym, _∙_}

@@ -1,5 +1,5 @@
--- `table::entry::take_apart` meets its contract: each arm of the match is a place of `kinds`, and past the last all is ill-formed. Assumes
--- nothing.
+-- `table::entry::take_apart` meets its contract: each arm of the match is a place of `kinds`, and past the last all is
+-- ill-formed. Assumes nothing.
 use Prim.Native.Nat.{ℕ, _≤_}
 use native.Mathlib.Omega.{arith}
 use mathlib.Core.Path.{_≡_, sym, ap₂, _∙_}

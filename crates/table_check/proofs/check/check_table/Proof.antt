@@ -1,5 +1,5 @@
--- `table_check::check::check_table` meets its contract: each answer is a case of `tableTests`, and 2 leaves the sizes that 5 needs. Assumes
--- nothing.
+-- `table_check::check::check_table` meets its contract: each answer is a case of `tableTests`, and 2 leaves the sizes
+-- that 5 needs. Assumes nothing.
 use mathlib.Core.Bool.{true}
 use mathlib.Core.Path.{_≡_, sym, _∙_}
 use borrow.Author.Needs.{needs}

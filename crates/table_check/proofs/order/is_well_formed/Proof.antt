@@ -1,4 +1,5 @@
--- `table_check::order::is_well_formed` meets its contract: it asks what `bounded` says test 4 asks, the second operand only if the first is below its bound. Assumes nothing.
+-- `table_check::order::is_well_formed` meets its contract: it asks what `bounded` says test 4 asks, the second operand
+-- only if the first is below its bound. Assumes nothing.
 use borrow.Author.Needs.{needs}
 use Rattle.table_check.proofs.Bounds.{asked-both, asked-first}
 use Rattle.table_check.proofs.order.is_well_formed.Statement.{statement}

@@ -1,4 +1,5 @@
--- `table_check::repeat::are_same` meets its contract: the seconds are compared only if the heads are equal. Assumes nothing.
+-- `table_check::repeat::are_same` meets its contract: the seconds are compared only if the heads are equal. Assumes
+-- nothing.
 use native.Mathlib.Omega.{arith}
 use borrow.Author.Tests.{eq-eqb, ne-eqb}
 use Rattle.table_check.proofs.repeat.are_same.Statement.{statement}

@@ -1,5 +1,5 @@
--- `table_check::repeat::repeated_by` meets its contract. The loop's invariant: the entries before i are indexed, and none of them is
--- repeated. Assumes nothing.
+-- `table_check::repeat::repeated_by` meets its contract. The loop's invariant: the entries before i are indexed, and
+-- none of them is repeated. Assumes nothing.
 use Prim.Native.Nat.{_≤_, _-_}
 use native.Mathlib.Omega.{arith}
 use mathlib.Core.Bool.{false}

@@ -1,4 +1,5 @@
--- `table_check::repeat::repeated_entry` meets its contract: either index has a root, and room for every entry. Assumes nothing.
+-- `table_check::repeat::repeated_entry` meets its contract: either index has a root, and room for every entry. Assumes
+-- nothing.
 use native.Mathlib.Omega.{arith}
 use borrow.Author.Needs.{needs}
 use Rattle.table_check.proofs.Trees.{indexed-none}

@@ -1,5 +1,5 @@
--- `table_check::repeat::take_in` meets its contract. The loop's invariant: an earlier entry that is the same as i is met from the slot that
--- the search has come to. The measure falls since links rise along a path. Assumes nothing.
+-- `table_check::repeat::take_in` meets its contract. The loop's invariant: an earlier entry that is the same as i is
+-- met from the slot that the search has come to. The measure falls since links rise along a path. Assumes nothing.
 use Prim.Native.Nat.{_+_, _*_, _-_}
 use native.Mathlib.Omega.{arith}
 use mathlib.Core.Bool.{not, false≢true}

@@ -1,5 +1,5 @@
--- `decimal::decimal_length` meets its contract. The loop's invariant: the digits of what is left and those counted, less one, are the number's.
--- The measure is what is left. Assumes nothing.
+-- `decimal::decimal_length` meets its contract. The loop's invariant: the digits of what is left and those counted,
+-- less one, are the number's. The measure is what is left. Assumes nothing.
 use Prim.Native.Nat.{_+_}
 use native.Mathlib.Omega.{arith}
 use mathlib.Core.Path.{_≡_, ap}

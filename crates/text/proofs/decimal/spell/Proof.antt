@@ -1,5 +1,5 @@
--- `decimal::spell` meets its contract. The loop's invariant: the digits of the rest and then those that are written are the number's.
--- The measure is the rest. Assumes nothing.
+-- `decimal::spell` meets its contract. The loop's invariant: the digits of the rest and then those that are written are
+-- the number's. The measure is the rest. Assumes nothing.
 use native.Mathlib.Omega.{arith}
 use lib.ListN.{length-set}
 use borrow.Author.Needs.{needs}

@@ -1,5 +1,5 @@
--- `fill::fill` meets its contract. The loop's invariant: the first `i` bytes are written, and they had room. The measure is what is left of
--- the bytes. Assumes nothing.
+-- `fill::fill` meets its contract. The loop's invariant: the first `i` bytes are written, and they had room. The
+-- measure is what is left of the bytes. Assumes nothing.
 use Prim.Native.Nat.{_-_}
 use native.Mathlib.Omega.{arith}
 use mathlib.Core.Logic.{inl, inr, ⊎-elim}

@@ -1,4 +1,5 @@
--- `check_goal` meets its contract: the slots hold the statements, so what the walk answers is the machine's verdict. Assumes nothing.
+-- `check_goal` meets its contract: the slots hold the statements, so what the walk answers is the machine's verdict.
+-- Assumes nothing.
 use mathlib.Core.Path.{_∙_}
 use borrow.Author.Needs.{needs}
 use Rattle.walk.proofs.Walks.{verdict-done, verdict-refused, of-goal}

@@ -1,5 +1,5 @@
--- `check_goals` meets its contract. The loop's invariant: the slots are as they were, and the verdict on all goals is that on the goals from
--- position i on, from the word `at` on. Assumes nothing.
+-- `check_goals` meets its contract. The loop's invariant: the slots are as they were, and the verdict on all goals is
+-- that on the goals from position i on, from the word `at` on. Assumes nothing.
 use Prim.Native.Nat.{_≤_, _-_}
 use native.Mathlib.Omega.{arith}
 use mathlib.Core.Path.{_≡_, refl, sym, ap, _∙_}

@@ -1,6 +1,7 @@
--- `Walk::truth`, `Walk::affirmation` and `Walk::adding` meet their contracts: what each answers is the machine's answer, by the laws of
--- Walks.antt, and the slots are as they were. They end because the words that are left fall; `adding` stands between two checks at one word.
--- Of a place's record, `opened` is where `open` answered, `start` the function's entry. Assumes nothing.
+-- `Walk::truth`, `Walk::affirmation` and `Walk::adding` meet their contracts: what each answers is the machine's
+-- answer, by the laws of Walks.antt, and the slots are as they were. They end because the words that are left fall;
+-- `adding` stands between two checks at one word. Of a place's record, `opened` is where `open` answered, `start` the
+-- function's entry. Assumes nothing.
 use borrow.Author.Needs.{needs}
 use Prim.Native.Nat.{ℕ, _<_, _+_, _*_, _-_}
 use native.Mathlib.Omega.{arith}

@@ -1,4 +1,5 @@
--- `exchange_check::proofs::check_steps` meets its contract: the verdict on the proofs of both lists, and 15. Assumes nothing.
+-- `exchange_check::step_tests::check_steps` meets its contract: the verdict on the proofs of both lists, and 15.
+-- Assumes nothing.
 use Prim.Native.Nat.{_+_, _≤_}
 use native.Mathlib.Omega.{arith}
 use lib.ListN.{length}
@@ -6,8 +7,8 @@ use mir.Syntax.{w64}
 use mir.Val.{Fits}
 use borrow.Author.Needs.{needs}
 use Rattle.exchange_check.proofs.StepTest.{first-refused, used-within, refused-within, more-within, second-refused, refused-15, passed-15}
-use Rattle.exchange_check.proofs.proofs.check_steps.Statement.{statement}
-use Rattle.exchange_check.proofs.proofs.check_steps.Tie as tie
+use Rattle.exchange_check.proofs.step_tests.check_steps.Statement.{statement}
+use Rattle.exchange_check.proofs.step_tests.check_steps.Tie as tie
 
 -- the words that the proofs of the second list used are among the step words
 used-in : (c : tie.After-known-told2) →

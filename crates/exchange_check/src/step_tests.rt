@@ -7,9 +7,10 @@ use basics::tested::Tested;
 use steps::verdict::WalkVerdict;
 use walk::check::check_proofs;
 
-// "The words hold a proof of each statement of the second list from the first, in order, then of each of the first from the second", and
-// "each proof begins at the word after the last one": `check_proofs` hands each proof of a list the tail of the step words, from the last proof's
-// end, and here the tail that the second list's proofs leave is handed on to the first's.
+// "The words hold a proof of each statement of the second list from the first, in order, then of each of the first from
+// the second", and "each proof begins at the word after the last one": `check_proofs` hands each proof of a list the
+// tail of the step words, from the last proof's end, and here the tail that the second list's proofs leave is handed on
+// to the first's.
 pub(crate) fn check_steps(
     heads: &[u16],
     seconds: &[u16],

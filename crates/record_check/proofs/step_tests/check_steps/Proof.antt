@@ -1,8 +1,8 @@
--- `record_check::proof::check_steps` meets its contract: the walk's verdict, and 15. Assumes nothing.
+-- `record_check::step_tests::check_steps` meets its contract: the walk's verdict, and 15. Assumes nothing.
 use borrow.Author.Needs.{needs}
 use Rattle.record_check.proofs.StepTest.{refused-15, passed-15, refused-9-14}
-use Rattle.record_check.proofs.proof.check_steps.Statement.{statement}
-use Rattle.record_check.proofs.proof.check_steps.Tie as tie
+use Rattle.record_check.proofs.step_tests.check_steps.Statement.{statement}
+use Rattle.record_check.proofs.step_tests.check_steps.Tie as tie
 
 returns : tie.Need-returns
 returns c = refused-15 _ _ _ _ _ (c .before .before .before .before .check-proof .ensures) (c .before .before .used .given .1) (c .if1 .taken)
