@@ -1,9 +1,10 @@
 /*
- * Wethrynda: the checks of release records and of exchange files, for C. The library is target/staticlib/libffi.a, for x86-64 Linux; `rt staticlib
- * ffi` at the top of the repository makes it. Link it by its path, as examples/check.c is linked: another library has the name `ffi` too.
+ * Wethrynda: the checks of release records and of exchange files, for C. The library is target/staticlib/libffi.a, for
+ * x86-64 Linux; `rt staticlib ffi` at the top of the repository makes it. Link it by its path, as examples/check.c is
+ * linked: another library has the name `ffi` too.
  *
- * The functions are written and proved in Rattle. Their contracts are in crates/ffi/src/lib.rt and decide where a comment here is unclear. Nothing
- * checks these declarations against them.
+ * The functions are written and proved in Rattle. Their contracts are in crates/ffi/src/lib.rt and decide where a
+ * comment here is unclear. Nothing checks these declarations against them.
  */
 #ifndef WETHRYNDA_H
 #define WETHRYNDA_H
@@ -20,35 +21,38 @@ extern "C" {
 #define WETHRYNDA_MOST_SIGNERS 256
 
 /*
- * Checks the record in the bytes file[0] .. file[file_length - 1], any bytes of any number, and answers one number, which the functions below
- * take apart. It makes every test itself and always answers: it allocates nothing, reads and writes no file, and keeps nothing from call to call.
+ * Checks the record in the bytes file[0] .. file[file_length - 1], any bytes of any number, and answers one number,
+ * which the functions below take apart. It makes every test itself and always answers: it allocates nothing, reads and
+ * writes no file, and keeps nothing from call to call.
  *
- * Granted: the record's signers, principal numbers from 0 to 4095, stand in signers[0] .. signers[count - 1], each once. Their ORDER IS FREE: do
- * not rely on it. The words after them are as they were.
+ * Granted: the record's signers, principal numbers from 0 to 4095, stand in signers[0] .. signers[count - 1], each
+ * once. Their ORDER IS FREE: do not rely on it. The words after them are as they were.
  * Refused: no word of the list has changed. A list shorter than the number of signers is refusal 8.
  *
  * What the caller sees to, for nothing can test it:
- * - Neither pointer is null, even where its length is 0. A pointer to any object will do there. `signers` is aligned as a uint16_t is.
- * - The file has `file_length` bytes that may be read, and the list, which is lent for the call, `signers_length` words that may be read and
- *   written. They do not overlap, and no other thread changes either until the call is over. (Calls may run at the same time on lists of their own.)
- * - The thread has about 600 KB of stack left: a proof may be 512 steps deep, and the file's words are held on the stack. Main threads have
- *   that; a thread that is made with a small stack may not, and then the process ends.
+ * - Neither pointer is null, even where its length is 0. A pointer to any object will do there. `signers` is aligned as
+ *   a uint16_t is.
+ * - The file has `file_length` bytes that may be read, and the list, which is lent for the call, `signers_length` words
+ *   that may be read and written. They do not overlap, and no other thread changes either until the call is over.
+ *   (Calls may run at the same time on lists of their own.)
+ * - The thread has about 600 KB of stack left: a proof may be 512 steps deep, and the file's words are held on the
+ *   stack. Main threads have that; a thread that is made with a small stack may not, and then the process ends.
  */
 uint64_t wethrynda_check_record(const uint8_t *file, size_t file_length, uint16_t *signers, size_t signers_length);
 
 /*
- * Checks the exchange file in the bytes file[0] .. file[file_length - 1], any bytes of any number, and answers one number, which the functions
- * below take apart. It makes every test itself and always answers: it allocates nothing, reads and writes no file, and keeps nothing from call to
- * call. What is lent, the file, is not changed.
+ * Checks the exchange file in the bytes file[0] .. file[file_length - 1], any bytes of any number, and answers one
+ * number, which the functions below take apart. It makes every test itself and always answers: it allocates nothing,
+ * reads and writes no file, and keeps nothing from call to call. What is lent, the file, is not changed.
  *
- * Equal: the file proves each statement of the second list from the first list, and each of the first from the second; so the two lists are equal
- * in force: whatever has a proof from one has a proof from the other.
+ * Equal: the file proves each statement of the second list from the first list, and each of the first from the second;
+ * so the two lists are equal in force: whatever has a proof from one has a proof from the other.
  * Refused: this file does not show it. The lists may be equal in force all the same.
  *
  * What the caller sees to, for nothing can test it:
  * - The pointer is not null, even where the length is 0. A pointer to any object will do there.
- * - The file has `file_length` bytes that may be read, and no other thread changes them until the call is over. (Calls may run at the same time,
- *   on the same file too.)
+ * - The file has `file_length` bytes that may be read, and no other thread changes them until the call is over. (Calls
+ *   may run at the same time, on the same file too.)
  * - The thread has about 600 KB of stack left, as for a record.
  */
 uint64_t wethrynda_check_exchange(const uint8_t *file, size_t file_length);
@@ -66,8 +70,9 @@ static inline bool wethrynda_is_equal(uint64_t answer) { return answer >> 32 == 
 static inline uint32_t wethrynda_number(uint64_t answer) { return (uint32_t)(answer >> 32); }
 
 /*
- * Of a refused record or exchange file: the place, counted from 0: the entry, the statement or the step where the reason was found, or 0. In an
- * exchange file statements are counted through the first list and then the second, and steps through all proofs.
+ * Of a refused record or exchange file: the place, counted from 0: the entry, the statement or the step where the
+ * reason was found, or 0. In an exchange file statements are counted through the first list and then the second, and
+ * steps through all proofs.
  */
 static inline uint32_t wethrynda_place(uint64_t answer) { return (uint32_t)(answer & 0xffffffffu); }
 

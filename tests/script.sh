@@ -1,6 +1,7 @@
 #!/bin/sh
-# Tests from outside, on files made here and on the samples: the programs check_record and check_exchange, then ./wethrynda, then ./wethrynda alone
-# with a toolchain and a checker that only pretend. Each check that fails says what was expected and what came, and then the status is 1.
+# Tests from outside, on files made here and on the samples: the programs check_record and check_exchange, then
+# ./wethrynda, then ./wethrynda alone with a toolchain and a checker that only pretend. Each check that fails says what
+# was expected and what came, and then the status is 1.
 set -u
 
 top=$(CDPATH='' cd -- "$(dirname -- "$0")/.." && pwd -P) || exit 1
@@ -27,8 +28,9 @@ complain() { # WHAT EXPECTED GOT
     echo "$1" >>"$room/failed"
 }
 
-# Runs a command and compares its status and the whole of its standard output: the line, or nothing where it is empty. Its standard error has to
-# have the text, or to be empty where that is. (Failures are kept in a file, for checks at the end of a pipe.)
+# Runs a command and compares its status and the whole of its standard output: the line, or nothing where it is empty.
+# Its standard error has to have the text, or to be empty where that is. (Failures are kept in a file, for checks at the
+# end of a pipe.)
 check() { # WHAT STATUS LINE TEXT COMMAND...
     what=$1 status=$2 wanted=$3 text=$4
     shift 4
@@ -77,7 +79,8 @@ done
 "$script" record "$room/A" >/dev/null 2>"$room/err" || complain 'first call, record' 'status 0' "$(cat "$room/err")"
 "$script" exchange "$room/K" >/dev/null 2>"$room/err" || complain 'first call, exchange' 'status 0' "$(cat "$room/err")"
 
-# The same for each kind of file: a right one and its line, a refused one with its line and what is said of it, and the longest.
+# The same for each kind of file: a right one and its line, a refused one with its line and what is said of it, and the
+# longest.
 both() { # KIND RIGHT LINE REFUSED LINE TEXT
     program=$programs/check_$1 longest=$room/longest-$1
     check "program: $2" 0 "$3" '' "$program" <"$room/$2"
@@ -144,7 +147,8 @@ cd "$top" || exit 1
 check 'script: by sh' 0 'granted 1 7' '' sh wethrynda record "$room/A"
 check 'script: by sh, exchange' 0 'equal' '' sh wethrynda exchange "$room/K"
 
-# All samples, where their pages say that they are, with the lines that are stored for them. The kind of a file is how its name ends.
+# All samples, where their pages say that they are, with the lines that are stored for them. The kind of a file is how
+# its name ends.
 while read -r name line; do
     case $line in
     refused*) check "sample: $name" 1 "$line" '.' "$script" "${name##*.}" "samples/$name" ;;
