@@ -1,6 +1,7 @@
 /*
- * Checks the record or the exchange file that is named, and prints the line of document 01. The exit status is 0 for granted and equal, 1 for
- * refused, and 2 where there is no verdict, because the file cannot be read or the line not written. At the top of the repository:
+ * Checks the record or the exchange file that is named, and prints the line of document 01. The exit status is 0 for
+ * granted and equal, 1 for refused, and 2 where there is no verdict, because the file cannot be read or the line not
+ * written. At the top of the repository:
  *
  *     rt staticlib ffi
  *     cc -Iinclude examples/check.c target/staticlib/libffi.a -o target/check
@@ -84,10 +85,10 @@ int main(int argc, char **argv) {
     int status;
     if (is_record) {
         uint16_t signers[WETHRYNDA_MOST_SIGNERS] = {0};
-        uint64_t answer = wethrynda_check_record(file, length, signers, WETHRYNDA_MOST_SIGNERS);
+        uint64_t answer = wethrynda_record(file, length, signers, WETHRYNDA_MOST_SIGNERS);
         status = print_record(answer, signers);
     } else {
-        status = print_exchange(wethrynda_check_exchange(file, length));
+        status = print_exchange(wethrynda_exchange(file, length));
     }
     free(file);
     return fflush(stdout) == 0 ? status : 2;

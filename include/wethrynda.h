@@ -3,8 +3,10 @@
  * x86-64 Linux; `rt staticlib ffi` at the top of the repository makes it. Link it by its path, as examples/check.c is
  * linked: another library has the name `ffi` too.
  *
- * The functions are written and proved in Rattle. Their contracts are in crates/ffi/src/lib.rt and decide where a
- * comment here is unclear. Nothing checks these declarations against them.
+ * wethrynda_check_record and wethrynda_check_exchange are written and proved in Rattle. Their contracts are in
+ * crates/ffi/src/lib.rt and decide where a comment here is unclear. Nothing checks these declarations against them. A
+ * caller in C should use the inline functions wethrynda_record and wethrynda_exchange, since in C an empty file or list
+ * may be a null pointer, which the proved functions must not be given.
  */
 #ifndef WETHRYNDA_H
 #define WETHRYNDA_H
@@ -29,7 +31,7 @@ extern "C" {
  * once. Their ORDER IS FREE: do not rely on it. The words after them are as they were.
  * Refused: no word of the list has changed. A list shorter than the number of signers is refusal 8.
  *
- * What the caller sees to, for nothing can test it:
+ * What the caller sees to, since the function cannot test it:
  * - Neither pointer is null, even where its length is 0. A pointer to any object will do there. `signers` is aligned as
  *   a uint16_t is.
  * - The file has `file_length` bytes that may be read, and the list, which is lent for the call, `signers_length` words
@@ -41,6 +43,19 @@ extern "C" {
 uint64_t wethrynda_check_record(const uint8_t *file, size_t file_length, uint16_t *signers, size_t signers_length);
 
 /*
+ * The same check, where a null pointer with length 0 is right too: the proved function is then handed a pointer to an
+ * object of this one's own, which it neither reads nor writes, since the length is 0. All else is handed on as it is,
+ * and the caller sees to it as above: null with another length stays the caller's mistake.
+ */
+static inline uint64_t wethrynda_record(const uint8_t *file, size_t file_length, uint16_t *signers,
+                                        size_t signers_length) {
+    const uint8_t no_bytes = 0;
+    uint16_t no_words = 0;
+    return wethrynda_check_record(file == NULL && file_length == 0 ? &no_bytes : file, file_length,
+                                  signers == NULL && signers_length == 0 ? &no_words : signers, signers_length);
+}
+
+/*
  * Checks the exchange file in the bytes file[0] .. file[file_length - 1], any bytes of any number, and answers one
  * number, which the functions below take apart. It makes every test itself and always answers: it allocates nothing,
  * reads and writes no file, and keeps nothing from call to call. What is lent, the file, is not changed.
@@ -49,7 +64,7 @@ uint64_t wethrynda_check_record(const uint8_t *file, size_t file_length, uint16_
  * so the two lists are equal in force: whatever has a proof from one has a proof from the other.
  * Refused: this file does not show it. The lists may be equal in force all the same.
  *
- * What the caller sees to, for nothing can test it:
+ * What the caller sees to, since the function cannot test it:
  * - The pointer is not null, even where the length is 0. A pointer to any object will do there.
  * - The file has `file_length` bytes that may be read, and no other thread changes them until the call is over. (Calls
  *   may run at the same time, on the same file too.)
@@ -57,16 +72,25 @@ uint64_t wethrynda_check_record(const uint8_t *file, size_t file_length, uint16_
  */
 uint64_t wethrynda_check_exchange(const uint8_t *file, size_t file_length);
 
-/* Of an answer of wethrynda_check_record only: whether the record is granted; else it is refused. */
+/* The same check, where a null pointer with length 0 is right too, as in wethrynda_record. */
+static inline uint64_t wethrynda_exchange(const uint8_t *file, size_t file_length) {
+    const uint8_t no_bytes = 0;
+    return wethrynda_check_exchange(file == NULL && file_length == 0 ? &no_bytes : file, file_length);
+}
+
+/* Of a record's answer only: whether the record is granted; else it is refused. */
 static inline bool wethrynda_is_granted(uint64_t answer) { return answer >> 32 == 0; }
 
 /* Of a granted record: how many signers it has. */
 static inline uint32_t wethrynda_count(uint64_t answer) { return (uint32_t)(answer & 0xffffffffu); }
 
-/* Of an answer of wethrynda_check_exchange only: whether the file shows that its lists are equal in force; else it is refused. */
+/* Of an exchange file's answer only: whether it shows that its lists are equal in force; else it is refused. */
 static inline bool wethrynda_is_equal(uint64_t answer) { return answer >> 32 == 0; }
 
-/* Of a refused record or exchange file: the refusal's number, 1 to 15, which says why (samples/README.md has the list). 0 if it is not refused. */
+/*
+ * Of a refused record or exchange file: the refusal's number, 1 to 15, which says why (samples/README.md has the list).
+ * 0 if it is not refused.
+ */
 static inline uint32_t wethrynda_number(uint64_t answer) { return (uint32_t)(answer >> 32); }
 
 /*

@@ -1,5 +1,5 @@
 //! The header and the library from C: the example program is compiled without a warning, and run on
-//! the samples.
+//! the samples; and null.c, which hands null pointers to the header's inline functions.
 mod common;
 
 use common::{samples, top, Answer};
@@ -13,14 +13,20 @@ fn made(name: &str) -> PathBuf {
 
 /// The example program, compiled as its first comment says. Each test has one of its own, since
 /// they run at the same time.
-fn compiled(name: &str) -> PathBuf {
+fn example(name: &str) -> PathBuf {
+    compiled(name, "examples/check.c", &[])
+}
+
+/// A program in C, compiled without a warning and linked with the library.
+fn compiled(name: &str, source: &str, options: &[&str]) -> PathBuf {
     let top = top();
     let program = made(name);
     let run = Command::new("cc")
         .args(["-std=c99", "-pedantic", "-Wall", "-Wextra", "-Werror", "-O2"])
+        .args(options)
         .arg("-I")
         .arg(top.join("include"))
-        .arg(top.join("examples/check.c"))
+        .arg(top.join(source))
         .arg(top.join("target/staticlib/libffi.a"))
         .arg("-o")
         .arg(&program)
@@ -42,7 +48,7 @@ fn assert_no_verdict(run: Output, about: &str) {
 
 #[test]
 fn samples_of_both_kinds() {
-    let program = compiled("check_samples");
+    let program = example("check_samples");
     for sample in samples("") {
         let (_, kind) = sample.name.rsplit_once('.').expect(&sample.name);
         let run = check(&program, kind, &top().join("samples").join(&sample.name));
@@ -72,7 +78,7 @@ fn samples_of_both_kinds() {
 
 #[test]
 fn no_verdict() {
-    let program = compiled("check_nothing");
+    let program = example("check_nothing");
     let folder = top().join("samples");
     for kind in ["record", "exchange"] {
         for unreadable in [folder.join("none"), folder.clone()] {
@@ -84,4 +90,12 @@ fn no_verdict() {
     assert_no_verdict(check(&program, "records", &record), "another word");
     let run = Command::new(&program).arg(&record).output().expect("the example program starts");
     assert_no_verdict(run, "one word only");
+}
+
+#[test]
+fn null_pointers() {
+    let wrap = ["-Wl,--wrap=wethrynda_check_record", "-Wl,--wrap=wethrynda_check_exchange"];
+    let program = compiled("null", "rust/wethrynda/tests/null.c", &wrap);
+    let run = Command::new(program).output().expect("null.c's program starts");
+    assert!(run.status.success(), "{}", String::from_utf8_lossy(&run.stdout));
 }
