@@ -7,4 +7,5 @@ pub mod Asked
 pub mod Refusals
 pub mod Order
 pub mod Written
+pub mod LimitsAre
 pub mod Words

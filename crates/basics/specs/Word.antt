@@ -23,6 +23,10 @@ WordOfBoth = (w : ℕ) → word (upper w) (lower w) ≡ w
 abbrev pub BothOfWord : Type 0
 BothOfWord = (u l : ℕ) → l < radix → (upper (word u l) ≡ u) × (lower (word u l) ≡ l)
 
+-- 01's own words: principal 7's head, and record A's second step, says left of formula 1.
+abbrev pub WordsAre : Type 0
+WordsAre = (word 5 7 ≡ 20487) × (word 11 1 ≡ 45057) × (upper 45057 ≡ 11) × (lower 45057 ≡ 1)
+
 -- Every lower number is that of an atom and of a principal, and every formula's number is a lower one.
 abbrev pub LowersAre : Type 0
 LowersAre = (mostAtoms ≡ radix) × (mostPrincipals ≡ radix) × (mostFormulas ≤ radix)
