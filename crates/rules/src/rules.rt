@@ -4,6 +4,7 @@ ghost use mathlib.Core.Path.{_≡_};
 ghost use mathlib.Core.List.{[]};
 ghost use Rattle.table.specs.Tests.{entries, entryAt};
 ghost use Rattle.steps.specs.Needs.{isFalse};
+ghost use Rattle.steps.specs.Obligation as Premises;
 ghost use Rattle.steps.specs.Rules as Rules;
 ghost use Rattle.steps.specs.Figure1.{same};
 use steps::goal::Goal;
@@ -17,7 +18,7 @@ use table::entry::entry_at;
 
 // A premise that adds nothing, one formula, or two.
 fn alone(goal: Goal) -> Premise
-    ensures { λ r. ⌜ r ≡ Rules.alone goal ⌝ }
+    ensures { λ r. ⌜ r ≡ Premises.alone goal ⌝ }
 {
     Premise {
         goal,
@@ -26,7 +27,7 @@ fn alone(goal: Goal) -> Premise
 }
 
 fn adding(goal: Goal, f: Formula) -> Premise
-    ensures { λ r. ⌜ r ≡ Rules.adding goal f ⌝ }
+    ensures { λ r. ⌜ r ≡ Premises.adding goal f ⌝ }
 {
     Premise {
         goal,
@@ -35,7 +36,7 @@ fn adding(goal: Goal, f: Formula) -> Premise
 }
 
 fn adding_both(goal: Goal, f: Formula, g: Formula) -> Premise
-    ensures { λ r. ⌜ r ≡ Rules.addingBoth goal f g ⌝ }
+    ensures { λ r. ⌜ r ≡ Premises.addingBoth goal f g ⌝ }
 {
     Premise {
         goal,

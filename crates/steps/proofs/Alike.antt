@@ -150,7 +150,7 @@ module _ (speaks : ℕ → ℕ → Bool) (es : List Entry) where
   unfolding step opens
   step-opens limit w o =
       pick-cases Openable (leb (o .depth) limit)
-      (λ t. getD-cases Opens (rules speaks es) unknown each (λ c hs n g. eleven) (upper w) (o .hypotheses) (lower w) (o .goal))
+      (λ t. getD-cases Opens (rules speaks es) unknown each (λ c high hs n g. eleven) (upper w) (o .hypotheses) (lower w) (o .goal))
       (λ t. ten)
 
 -- ---- number and place of a run's refusal

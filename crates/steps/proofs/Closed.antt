@@ -15,11 +15,12 @@ use Rattle.steps.specs.declared.opened.Opened.the-variants as Opening
 use Rattle.steps.specs.declared.verdict.WalkVerdict.{WalkVerdict}
 use Rattle.steps.specs.declared.verdict.WalkVerdict.the-variants.{Closed, Refused}
 use Rattle.steps.specs.Obligation.{Obligation, under}
+use Rattle.steps.specs.Applies.{Takes}
 use Rattle.steps.specs.Step.{step}
 use Rattle.steps.specs.Run.{after, allUsed, walk, run}
 use Rattle.steps.specs.Runs.{Closes, ClosedUsesAll}
 use Rattle.steps.proofs.Cases.{OfPremises}
-use Rattle.steps.proofs.Applies.{Takes, step-takes}
+use Rattle.steps.proofs.Steps.{step-takes}
 
 -- Closed is not refused.
 pub refused-not-closed : {number p q : ℕ} → Refused number p ≡ Closed q → ⊥
@@ -47,7 +48,7 @@ module _ (speaks : ℕ → ℕ → Bool) (limit : ℕ) (es : List Entry) where
       → walk speaks limit es (w ∷ ws) p (o ∷ os) ≡ Closed q
       → (ps : List Premise) × Takes speaks es limit w o ps × (walk speaks limit es ws (suc p) (map (under o) ps ++ os) ≡ Closed q)
   unfolding walk
-  walk-closed w ws p q o os = after-closed _ (step speaks es limit w o) p q _ (step-takes speaks es limit w o)
+  walk-closed w ws p q o os = after-closed _ (step speaks es limit w o) p q _ (step-takes speaks limit es w o)
 
   -- A run that closes is a walk that closes at the end of the words.
   pub run-closed : (os : List Obligation) (ws : List ℕ)

@@ -19,8 +19,7 @@ use Rattle.logic.proofs.Depth.{steps}
 use Rattle.table.specs.declared.entry.Entry.{Entry}
 use Rattle.table.specs.Number.{number}
 use Rattle.table.specs.Laws.{Ordered, Distinct}
-use Rattle.steps.specs.Obligation.{Obligation}
-use Rattle.steps.specs.Rules.{alone, adding, addingBoth}
+use Rattle.steps.specs.Obligation.{Obligation, alone, adding, addingBoth}
 use Rattle.steps.specs.Words.{words}
 use Rattle.steps.specs.Carried.{Carried, InTable}
 use Rattle.steps.specs.Runs.{Decides, Closes}

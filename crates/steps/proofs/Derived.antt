@@ -24,7 +24,7 @@ use Rattle.steps.specs.Obligation.{added}
 use Rattle.steps.specs.Words.{words}
 use Rattle.steps.specs.Carried.{judgment}
 use Rattle.steps.specs.Runs.{Decides}
-use Rattle.steps.proofs.Applies.{Named, Applies, init, affirm, implies-right, implies-left, false-left, and-right, and-left, or-right-first, or-right-second, or-left, says-right, says-left}
+use Rattle.steps.specs.Applies.{Named, Applies, init, affirm, implies-right, implies-left, false-left, and-right, and-left, or-right-first, or-right-second, or-left, says-right, says-left}
 use Rattle.steps.proofs.Chain.{Chain}
 use Rattle.steps.proofs.Begins.{Begins, nothing, first, both, ends}
 

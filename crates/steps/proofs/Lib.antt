@@ -1,7 +1,9 @@
 -- The theorems whose statements are in specs/, and the lemmas behind them. What stands above leans on Cases and Applies
 -- (what holds of every rule's premises), Closed, Parts, Trace and Figure1. Assumes nothing.
 pub mod Cases
-pub mod Applies
+pub mod Lowest
+pub mod RuleReasons
+pub mod Steps
 pub mod Parts
 pub mod Closed
 pub mod Walked

@@ -21,7 +21,7 @@ use Rattle.steps.specs.Obligation.{Obligation, added, under}
 use Rattle.steps.specs.Run.{walk}
 use Rattle.steps.specs.Carried.{judgment, Carried}
 use Rattle.steps.specs.Runs.{Decides, Closes}
-use Rattle.steps.proofs.Applies.{Takes}
+use Rattle.steps.specs.Applies.{Takes}
 use Rattle.steps.proofs.Closed.{refused-not-closed, walk-closed, run-closed}
 use Rattle.steps.proofs.Chain.{Chain, chain-append, chain-map}
 use Rattle.steps.proofs.Derived.{Covers, Derived, DerivedPremise, derived}

@@ -5,7 +5,6 @@ use mathlib.Core.Bool.{Bool}
 use mathlib.Core.Path.{_≡_}
 use mathlib.Core.Logic.{_↔_}
 use mathlib.Core.List.{List, [], _∷_}
-use mathlib.Core.Option.{Option}
 use lib.ListN.{length}
 use lib.Dec.{eqb}
 use Rattle.basics.specs.Membership.{_∈_}
@@ -39,9 +38,6 @@ walk es ws p os = AnyRun.walk same mostDepth es ws p os
 
 abbrev pub run : List Entry → List ℕ → List Obligation → WalkVerdict
 run es ws os = AnyRun.run same mostDepth es ws os
-
-abbrev pub leave : List Entry → List ℕ → List Obligation → Option (List Obligation)
-leave es ws os = AnyStops.leave same mostDepth es ws os
 
 abbrev pub Stop : List Entry → List ℕ → List Obligation → ℕ → ℕ → Type 0
 Stop es ws os number p = AnyStops.Stop same mostDepth es ws os number p

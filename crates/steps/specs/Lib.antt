@@ -2,13 +2,16 @@
 -- the machine closes on exactly these, and the trace of a run. Definitions, then the statements of theorems, to be read
 -- in this order. The proofs are in proofs/.
 pub mod Obligation
+pub mod Applies
+pub mod Reasons
 pub mod Needs
 pub mod Rules
 pub mod Step
 pub mod Run
+pub mod Steps
+pub mod Stops
 pub mod Parts
 pub mod Alike
-pub mod Stops
 pub mod Words
 pub mod Carried
 pub mod Runs

@@ -3,9 +3,10 @@
 -- own types. Assumes nothing.
 use Prim.Native.Nat.{ℕ, suc}
 use mathlib.Core.List.{List, [], _∷_, _++_, map}
+use Rattle.table.specs.declared.entry.Formula.{Formula}
 use Rattle.table.specs.Entry.{formula}
 use Rattle.steps.specs.declared.goal.Goal.{Goal}
-use Rattle.steps.specs.declared.goal.Goal.the-variants.{True}
+use Rattle.steps.specs.declared.goal.Goal.the-variants.{True, Affirms}
 use Rattle.steps.specs.declared.opened.Added.{Added}
 use Rattle.steps.specs.declared.opened.Added.the-variants.{Nothing, One, Two}
 use Rattle.steps.specs.declared.opened.Premise.{Premise}
@@ -23,6 +24,21 @@ obligation statements n = record { hypotheses = statements; goal = True (formula
 -- file").
 abbrev pub obligations : List ℕ → List ℕ → List Obligation
 obligations statements goals = map (obligation statements) goals
+
+-- the number of a goal's formula
+abbrev pub goalFormula : Goal → ℕ
+goalFormula (True f) = f .0
+goalFormula (Affirms k f) = f .0
+
+-- a premise: a goal, alone or with hypotheses added
+abbrev pub alone : Goal → Premise
+alone g = record { goal = g; added = Nothing }
+
+abbrev pub adding : Goal → Formula → Premise
+adding g f = record { goal = g; added = One f }
+
+abbrev pub addingBoth : Goal → Formula → Formula → Premise
+addingBoth g f h = record { goal = g; added = Two f h }
 
 -- the numbers that a premise adds
 abbrev pub added : Added → List ℕ

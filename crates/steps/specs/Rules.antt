@@ -1,4 +1,4 @@
--- 01's table of rules, row by row, over formula numbers. `entryAt es` gives the entry of a number, n is the named
+-- 01's table of rules, row by row, as the machine goes by it. `entryAt es` gives the entry of a number, n is the named
 -- formula's number, and g the goal. Above each rule stands its row: code, name, goal below, named hypothesis, premises
 -- in order. Assumes nothing.
 --
@@ -8,27 +8,15 @@ use mathlib.Core.Bool.{Bool}
 use mathlib.Core.List.{List}
 use lib.Dec.{eqb}
 use Rattle.basics.specs.Choice.{pick}
-use Rattle.table.specs.declared.entry.Formula.{Formula}
 use Rattle.table.specs.declared.entry.Principal.{Principal}
 use Rattle.table.specs.declared.entry.Entry.{Entry}
 use Rattle.table.specs.Tests.{entryAt}
 use Rattle.steps.specs.declared.goal.Goal.{Goal}
 use Rattle.steps.specs.declared.goal.Goal.the-variants.{True, Affirms}
-use Rattle.steps.specs.declared.opened.Added.the-variants as Adding
-use Rattle.steps.specs.declared.opened.Premise.{Premise}
 use Rattle.steps.specs.declared.opened.Opened.{Opened}
 use Rattle.steps.specs.declared.opened.Opened.the-variants.{Refused, Closed, One, Two}
+use Rattle.steps.specs.Obligation.{alone, adding, addingBoth}
 use Rattle.steps.specs.Needs.{truth, affirmation, isAtom, isFalse, isImplies, isAnd, isOr, isSays}
-
--- a premise: a goal, alone or with hypotheses added
-abbrev pub alone : Goal → Premise
-alone g = record { goal = g; added = Adding.Nothing }
-
-abbrev pub adding : Goal → Formula → Premise
-adding g f = record { goal = g; added = Adding.One f }
-
-abbrev pub addingBoth : Goal → Formula → Formula → Premise
-addingBoth g f h = record { goal = g; added = Adding.Two f h }
 
 -- "14. Code 11 names a says-formula of K and the goal isn't an affirmation by K."
 abbrev pub servedBy : (ℕ → ℕ → Bool) → Principal → Goal → Opened → Opened

@@ -12,10 +12,11 @@ use Rattle.steps.specs.declared.goal.Goal.the-variants.{True, Affirms}
 use Rattle.steps.specs.declared.opened.Added.the-variants.{Nothing}
 use Rattle.steps.specs.declared.opened.Premise.{Premise}
 use Rattle.steps.specs.Obligation.{Obligation}
+use Rattle.steps.specs.Applies.{Applies, init, affirm, implies-right, implies-left, false-left, and-right, and-left, or-right-first, or-right-second, or-left, says-right, says-left}
 use Rattle.steps.specs.Step.{step}
 use Rattle.walk.specs.Walks.{IsTruth, IsAffirmation}
 use Rattle.steps.proofs.Cases.{OfPremises, of-premises}
-use Rattle.steps.proofs.Applies.{Applies, init, affirm, implies-right, implies-left, false-left, and-right, and-left, or-right-first, or-right-second, or-left, says-right, says-left, step-takes}
+use Rattle.steps.proofs.Steps.{step-takes}
 
 -- one is a truth, the other an affirmation
 abbrev pub Other : Goal → Goal → Type 0
@@ -58,4 +59,4 @@ module _ {speaks : ℕ → ℕ → Bool} {es : List Entry} {hs : List ℕ} where
 
 pub step-first-alone : (speaks : ℕ → ℕ → Bool) (es : List Entry) (limit w : ℕ) (o : Obligation)
     → OfPremises (FirstAlone (o .goal)) (step speaks es limit w o)
-step-first-alone speaks es limit w o = of-premises _ _ (step speaks es limit w o) (λ ps takes. first-alone (takes .applies)) (step-takes speaks es limit w o)
+step-first-alone speaks es limit w o = of-premises _ _ (step speaks es limit w o) (λ ps takes. first-alone (takes .applies)) (step-takes speaks limit es w o)
