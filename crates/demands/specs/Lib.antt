@@ -2,4 +2,5 @@
 -- demands, sentence by sentence, as one promise.
 pub mod Releases
 pub mod Samples
+pub mod EachRule
 pub mod Demands

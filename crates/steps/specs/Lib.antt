@@ -19,3 +19,4 @@ pub mod Trace
 pub mod Figure1
 pub mod Answer
 pub mod Samples
+pub mod EachRule
