@@ -1,4 +1,5 @@
--- A table of two arrays, entry by entry, and what an entry keeps of its head and second. Assumes nothing.
+-- A table of two arrays, entry by entry, and an entry's words (specs/Laws.antt, `EntryOfWords` and `WordsOfEntry`).
+-- Assumes nothing.
 use Prim.Native.Nat.{ℕ, zero, suc, _<_, _≤_, min}
 use native.Mathlib.Omega.{arith}
 use mathlib.Core.Path.{_≡_, refl, sym, ap, ap₂, _∙_}
@@ -7,13 +8,15 @@ use lib.ListN.{length, getD, List·getD-eq-default}
 use lib.Dec.{eqb}
 use borrow.Author.Tests.{eqb-true}
 use Rattle.basics.specs.Choice.{both}
-use Rattle.basics.specs.Word.{word, upper, lower}
-use Rattle.basics.proofs.Words.{word-of-both}
+use Rattle.basics.specs.Limits.{mostFormulas, mostAtoms, mostPrincipals}
+use Rattle.basics.specs.Word.{radix, word, upper, lower}
+use Rattle.basics.proofs.Words.{word-of-both, both-of-word, lowers-are}
 use Rattle.basics.proofs.Choice.{both-true, pick-cases}
 use Rattle.table.specs.declared.entry.Entry.{Entry}
 use Rattle.table.specs.declared.entry.Entry.the-variants.{Atom, False, Implies, And, Or, Says, IllFormed}
-use Rattle.table.specs.Entry.{kinds, entry}
+use Rattle.table.specs.Entry.{kinds, entry, headOf, secondOf}
 use Rattle.table.specs.Tests.{entries, entryAt}
+use Rattle.table.specs.Laws.{FirstFits, EntryOfWords, WordsOfEntry}
 
 -- ---- the entries of two arrays
 
@@ -42,47 +45,64 @@ no-entry hs ss n l = List·getD-eq-default (entries hs ss) IllFormed (omega (ari
 
 -- ---- an entry's head and second
 
--- the head and the second that spell an entry out
-abbrev pub words : Entry → ℕ × ℕ
-words (Atom a) = (word 0 (a .0), 0)
-words False = (word 1 0, 0)
-words (Implies f g) = (word 2 (f .0), g .0)
-words (And f g) = (word 3 (f .0), g .0)
-words (Or f g) = (word 4 (f .0), g .0)
-words (Says k f) = (word 5 (k .0), f .0)
-words IllFormed = (0, 0)
+-- an operand that fits beside a kind is taken apart from it
+of-words : (kind one two : ℕ) → one < radix → entry (word kind one) two ≡ getD (kinds one two) kind IllFormed
+unfolding entry
+of-words kind one two fits =
+    let (u, l) = both-of-word kind one fits in
+    ap₂ (λ (k o : ℕ). getD (kinds o two) k IllFormed) u l
+
+-- what fits an atom, a principal or a formula fits beside a kind
+below-atoms : {n : ℕ} → n < mostAtoms → n < radix
+below-atoms l = omega (arith, lowers-are .0)
+
+below-principals : {n : ℕ} → n < mostPrincipals → n < radix
+below-principals l = omega (arith, lowers-are .1)
+
+below-formulas : {n : ℕ} → n < mostFormulas → n < radix
+below-formulas l = omega (arith, lowers-are .2)
+
+pub entry-of-words : EntryOfWords
+entry-of-words (Atom a) fits = of-words 0 (a .0) 0 (below-atoms fits)
+entry-of-words False fits = of-words 1 0 0 (omega arith)
+entry-of-words (Implies f g) fits = of-words 2 (f .0) (g .0) (below-formulas fits)
+entry-of-words (And f g) fits = of-words 3 (f .0) (g .0) (below-formulas fits)
+entry-of-words (Or f g) fits = of-words 4 (f .0) (g .0) (below-formulas fits)
+entry-of-words (Says k f) fits = of-words 5 (k .0) (f .0) (below-principals fits)
+entry-of-words IllFormed fits = absurd fits
 
 -- The entry has these words, unless it is ill-formed.
-abbrev pub Keeps : ℕ → ℕ → Entry → Type 0
-Keeps head second e = ¬ (e ≡ IllFormed) → words e ≡ (head, second)
+abbrev Has : ℕ → ℕ → Entry → Type 0
+Has head second e = ¬ (e ≡ IllFormed) → (headOf e ≡ head) × (secondOf e ≡ second) × FirstFits e
 
--- what is ill-formed keeps anything
-ill-formed : {head second : ℕ} → Keeps head second IllFormed
+-- what is ill-formed has any
+ill-formed : {head second : ℕ} → Has head second IllFormed
 ill-formed formed = absurd (formed refl)
 
 -- kind by kind, in the order of `kinds`
-keeps-by-kind : (kind one two : ℕ) → Keeps (word kind one) two (getD (kinds one two) kind IllFormed)
-keeps-by-kind zero one two =
-    pick-cases (Keeps (word 0 one) two) (eqb two 0)
-    (λ t formed. ap (λ b. (word 0 one, b)) (sym (eqb-true two 0 t)))
+has-by-kind : (kind one two : ℕ) → one < radix → Has (word kind one) two (getD (kinds one two) kind IllFormed)
+has-by-kind zero one two fits =
+    pick-cases (Has (word 0 one) two) (eqb two 0)
+    (λ t formed. (refl, sym (eqb-true two 0 t), fits))
     (λ t. ill-formed)
-keeps-by-kind (suc zero) one two =
-    pick-cases (Keeps (word 1 one) two) (both (eqb one 0) (eqb two 0))
-    (λ t formed. let (p, q) = both-true _ _ .0 t in ap₂ (λ a b. (word 1 a, b)) (sym (eqb-true one 0 p)) (sym (eqb-true two 0 q)))
+has-by-kind (suc zero) one two fits =
+    pick-cases (Has (word 1 one) two) (both (eqb one 0) (eqb two 0))
+    (λ t formed. let (p, q) = both-true _ _ .0 t in (ap (word 1) (sym (eqb-true one 0 p)), sym (eqb-true two 0 q), tt))
     (λ t. ill-formed)
-keeps-by-kind (suc (suc zero)) one two = λ formed. refl
-keeps-by-kind (suc (suc (suc zero))) one two = λ formed. refl
-keeps-by-kind (suc (suc (suc (suc zero)))) one two = λ formed. refl
-keeps-by-kind (suc (suc (suc (suc (suc zero))))) one two = λ formed. refl
-keeps-by-kind (suc (suc (suc (suc (suc (suc kind)))))) one two = ill-formed
+has-by-kind (suc (suc zero)) one two fits = λ formed. (refl, refl, fits)
+has-by-kind (suc (suc (suc zero))) one two fits = λ formed. (refl, refl, fits)
+has-by-kind (suc (suc (suc (suc zero)))) one two fits = λ formed. (refl, refl, fits)
+has-by-kind (suc (suc (suc (suc (suc zero))))) one two fits = λ formed. (refl, refl, fits)
+has-by-kind (suc (suc (suc (suc (suc (suc kind)))))) one two fits = ill-formed
 
--- An entry keeps its head and second.
-pub keeps : (h s : ℕ) → Keeps h s (entry h s)
+pub words-of-entry : WordsOfEntry
 unfolding entry
-keeps h s formed = rw (word-of-both h) at (keeps-by-kind (upper h) (lower h) s formed)
+words-of-entry head second formed =
+    rw (word-of-both head) at (has-by-kind (upper head) (lower head) second (omega arith) formed)
 
 -- So a well-formed entry fixes its head and second.
 pub entry-fixes : (h s h′ s′ : ℕ) → entry h s ≡ entry h′ s′ → ¬ (entry h s ≡ IllFormed) → (h ≡ h′) × (s ≡ s′)
 entry-fixes h s h′ s′ e formed =
-    let same : _≡_ {A = ℕ × ℕ} (h, s) (h′, s′) = sym (keeps h s formed) ∙ ap words e ∙ keeps h′ s′ (λ f. formed (e ∙ f)) in
-    (ap (λ w. w .0) same, ap (λ w. w .1) same)
+    let (head, second, _) = words-of-entry h s formed in
+    let (head′, second′, _) = words-of-entry h′ s′ (λ f. formed (e ∙ f)) in
+    (sym head ∙ ap headOf e ∙ head′, sym second ∙ ap secondOf e ∙ second′)

@@ -9,7 +9,7 @@ use mathlib.Core.List.{List, [], _∷_}
 use lib.ListN.{getD}
 use lib.Dec.{eqb}
 use Rattle.basics.specs.Choice.{pick, both}
-use Rattle.basics.specs.Word.{upper, lower}
+use Rattle.basics.specs.Word.{word, upper, lower}
 use Rattle.table.specs.declared.entry.Atom as A
 use Rattle.table.specs.declared.entry.Principal.{Principal}
 use Rattle.table.specs.declared.entry.Formula.{Formula}
@@ -40,3 +40,23 @@ kinds one two =
 -- a kind of 6 or more is ill-formed, and so is a wrong operand that shows without the entry's number
 unfoldable pub entry : ℕ → ℕ → Entry
 entry head second = getD (kinds (lower head) second) (upper head) IllFormed
+
+-- The same in 01's own direction: an entry's head, kind × 4,096 + first operand, and its second. What is ill-formed has
+-- neither; 0 stands for them.
+abbrev pub headOf : Entry → ℕ
+headOf (Atom a) = word 0 (a .0)
+headOf False = word 1 0
+headOf (Implies f g) = word 2 (f .0)
+headOf (And f g) = word 3 (f .0)
+headOf (Or f g) = word 4 (f .0)
+headOf (Says k f) = word 5 (k .0)
+headOf IllFormed = 0
+
+abbrev pub secondOf : Entry → ℕ
+secondOf (Atom a) = 0
+secondOf False = 0
+secondOf (Implies f g) = g .0
+secondOf (And f g) = g .0
+secondOf (Or f g) = g .0
+secondOf (Says k f) = f .0
+secondOf IllFormed = 0

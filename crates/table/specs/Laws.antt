@@ -1,5 +1,5 @@
--- What tests 4 and 5 give. Each statement is proved in proofs/ under its name in small letters; what stands above this
--- crate uses these and not the tests' definitions. Assumes nothing.
+-- An entry and its words, and what tests 4 and 5 give. Each statement is proved in proofs/ under its name in small
+-- letters; what stands above this crate uses these and not the tests' definitions. Assumes nothing.
 use Prim.Native.Nat.{ℕ, _<_, _≤_}
 use mathlib.Core.Bool.{true}
 use mathlib.Core.Path.{_≡_}
@@ -9,13 +9,35 @@ use lib.ListN.{length, getD}
 use Rattle.basics.specs.Membership.{_∈_}
 use Rattle.basics.specs.declared.place.Place.the-variants.{Nowhere}
 use Rattle.basics.specs.declared.tested.Tested.the-variants.{Passed}
-use Rattle.basics.specs.Limits.{mostFormulas}
+use Rattle.basics.specs.Limits.{mostFormulas, mostAtoms, mostPrincipals}
 use Rattle.table.specs.declared.entry.Formula.{Formula}
 use Rattle.table.specs.declared.entry.Entry.{Entry}
 use Rattle.table.specs.declared.entry.Entry.the-variants.{Atom, False, Implies, And, Or, Says, IllFormed}
+use Rattle.table.specs.Entry.{entry, headOf, secondOf}
 use Rattle.table.specs.Tests.{entries, entryAt, wellFormedAt, wrongEntry, repeatedEntry, tableTests}
 use Rattle.table.specs.Spelled.{proposition, spelled, spell}
 use Rattle.table.specs.Number.{number}
+
+-- The first operand has a number that fits beside the kind: "Atoms and principals are numbered 0 to 4,095" (01), and a
+-- formula's number is below 4,096.
+abbrev pub FirstFits : Entry → Type 0
+FirstFits (Atom a) = a .0 < mostAtoms
+FirstFits False = Unit
+FirstFits (Implies f g) = f .0 < mostFormulas
+FirstFits (And f g) = f .0 < mostFormulas
+FirstFits (Or f g) = f .0 < mostFormulas
+FirstFits (Says k f) = k .0 < mostPrincipals
+FirstFits IllFormed = ⊥
+
+-- Taking an entry's words apart gives the entry back,
+abbrev pub EntryOfWords : Type 0
+EntryOfWords = (e : Entry) → FirstFits e → entry (headOf e) (secondOf e) ≡ e
+
+-- and words that aren't ill-formed are those of the entry that they are taken apart into.
+abbrev pub WordsOfEntry : Type 0
+WordsOfEntry =
+    (head second : ℕ) → ¬ (entry head second ≡ IllFormed)
+    → (headOf (entry head second) ≡ head) × (secondOf (entry head second) ≡ second) × FirstFits (entry head second)
 
 -- 4 finds no fault exactly when each entry is well-formed at its number.
 abbrev pub Ordered : List Entry → Type 0

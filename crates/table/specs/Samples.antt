@@ -8,7 +8,9 @@ use lib.ListN.{replicate}
 use Rattle.basics.specs.declared.tested.Tested.{Tested}
 use Rattle.basics.specs.declared.tested.Tested.the-variants.{Passed, Refused}
 use Rattle.logic.specs.Proposition as P
-use Rattle.logic.specs.Proposition.{_implies_, _says_}
+use Rattle.logic.specs.Proposition.{_implies_, _and_, _or_, _says_}
+use Rattle.table.specs.declared.entry.Entry.the-variants.{Atom, False, Implies, And, Or, Says}
+use Rattle.table.specs.Entry.{atom, formula, principal}
 use Rattle.table.specs.Tests.{entries, sized, tableTests}
 use Rattle.table.specs.Spelled.{spelled}
 use Rattle.table.specs.Number.{number}
@@ -56,6 +58,38 @@ abbrev pub SpelledOut : Type 0
 SpelledOut =
     spelled (entries (0 ∷ 20487 ∷ 20488 ∷ 4096 ∷ 8193 ∷ []) (0 ∷ 0 ∷ 0 ∷ 0 ∷ 3 ∷ []))
     ≡ P.atom 0 ∷ 7 says P.atom 0 ∷ 8 says P.atom 0 ∷ P.false ∷ (7 says P.atom 0) implies P.false ∷ []
+
+-- Each kind once, with operands that differ in number and in kind, so that no two can change places: as heads and
+-- seconds,
+abbrev pub unlikeHeads : List ℕ
+unlikeHeads = 9 ∷ 4096 ∷ 8192 ∷ 12289 ∷ 16386 ∷ 20487 ∷ []
+
+abbrev pub unlikeSeconds : List ℕ
+unlikeSeconds = 0 ∷ 0 ∷ 1 ∷ 2 ∷ 0 ∷ 4 ∷ []
+
+-- as entries,
+abbrev pub EachKind : Type 0
+EachKind =
+    entries unlikeHeads unlikeSeconds
+    ≡ Atom (atom 9)
+    ∷ False
+    ∷ Implies (formula 0) (formula 1)
+    ∷ And (formula 1) (formula 2)
+    ∷ Or (formula 2) (formula 0)
+    ∷ Says (principal 7) (formula 4)
+    ∷ []
+
+-- and spelled out.
+abbrev pub EachSpelled : Type 0
+EachSpelled =
+    spelled (entries unlikeHeads unlikeSeconds)
+    ≡ P.atom 9
+    ∷ P.false
+    ∷ P.atom 9 implies P.false
+    ∷ P.false and (P.atom 9 implies P.false)
+    ∷ (P.atom 9 implies P.false) or P.atom 9
+    ∷ 7 says ((P.atom 9 implies P.false) or P.atom 9)
+    ∷ []
 
 -- The numbers of what table T spells, and of what it does not.
 abbrev pub Numbers : Type 0
