@@ -21,15 +21,18 @@ abbrev pub found : Place → Bool
 found (At i) = true
 found Nowhere = false
 
--- i is a place below n, has a fault, and no place before it has one
-pub record IsFirst (fault : ℕ → Bool) (n i : ℕ) : Type 0 where
+-- "place: the first such entry", "the first such position" (01): i is a place below n that has a fault, and no place
+-- before it has one
+pub record IsFirst (Fault : ℕ → Type 0) (n i : ℕ) : Type 0 where
   pub within : i < n
-  pub is-fault : fault i ≡ true
-  pub none-before : (j : ℕ) → j < i → fault j ≡ false
+  pub is-fault : Fault i
+  pub none-before : (j : ℕ) → j < i → ¬ Fault j
 
--- What `first` answers. Proved in proofs/First.antt.
-abbrev pub FirstPlace : Type 0
-FirstPlace = (fault : ℕ → Bool) (n i : ℕ) → first fault n ≡ At i ↔ IsFirst fault n i
+-- What `first` answers, where a test asks for the fault. Proved in proofs/First.antt.
+abbrev pub FirstPlace : Type 1
+FirstPlace =
+    (fault : ℕ → Bool) (Fault : ℕ → Type 0) (n : ℕ) → ((i : ℕ) → i < n → fault i ≡ true ↔ Fault i)
+    → (i : ℕ) → first fault n ≡ At i ↔ IsFirst Fault n i
 
 abbrev pub NoPlace : Type 0
 NoPlace = (fault : ℕ → Bool) (n : ℕ) → first fault n ≡ Nowhere ↔ ((i : ℕ) → i < n → fault i ≡ false)

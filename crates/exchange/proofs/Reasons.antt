@@ -5,15 +5,14 @@ use mathlib.Core.Path.{_≡_, refl, sym}
 use mathlib.Core.Logic.{_↔_, Iff·trans, _⊎_, inl, inr, ⊎-elim}
 use mathlib.Core.List.{List, [], _∷_, _++_}
 use lib.ListN.{length, getD}
-use lib.Dec.{leb}
 use Rattle.basics.specs.declared.place.Place.the-variants.{At}
 use Rattle.basics.specs.First.{IsFirst}
 use Rattle.basics.specs.Refusals.{Test, test}
 use Rattle.basics.specs.Order.{checkingOrder}
-use Rattle.basics.proofs.First.{first-place}
 use Rattle.basics.proofs.Order.{OneApplies, one-of-three, Follows, applying-in, refused-in-order, is-distinct, in-checking-order}
 use Rattle.file.specs.Layout.{layoutTests}
 use Rattle.file.proofs.Reasons.{layout-reasons}
+use Rattle.file.proofs.Outside.{first-outside}
 use Rattle.table.specs.Tests.{entryTests}
 use Rattle.table.proofs.Reasons.{entry-reasons}
 use Rattle.steps.specs.declared.verdict.WalkVerdict.the-variants as Walk
@@ -45,9 +44,10 @@ module _ (file : List ℕ) (number p : ℕ) where
 -- ---- all of them
 
 module _ (file : List ℕ) (number p : ℕ) where
-  seven : statementOutside file ≡ At p
-      ↔ IsFirst (λ i. leb (formulas file) (getD (firstList file ++ secondList file) i 0)) (length (firstList file ++ secondList file)) p
-  seven = first-place _ _ p
+  pub seven : statementOutside file ≡ At p
+      ↔ IsFirst (λ i. formulas file ≤ getD (firstList file ++ secondList file) i 0)
+      (length (firstList file ++ secondList file)) p
+  seven = first-outside (formulas file) (firstList file ++ secondList file) p
 
   -- the tests from 7 on, and all
   abbrev from-7 : List Test

@@ -3,7 +3,6 @@ use Prim.Native.Nat.{ℕ, _≤_, _<_}
 use mathlib.Core.Path.{_≡_}
 use mathlib.Core.List.{List, [], _∷_}
 use lib.ListN.{length, getD}
-use lib.Dec.{leb}
 use Rattle.basics.specs.First.{IsFirst}
 use Rattle.file.specs.Reasons.{LayoutReason}
 use Rattle.table.specs.Reasons.{EntryReason}
@@ -13,7 +12,7 @@ use Rattle.record.specs.Layout.{recordLayout, formulas, goal, heads, sec
 use Rattle.record.specs.Proof.{InRange}
 
 -- A reason to refuse a file, where a list of `room` words is lent: its number, its place p, and what it says. `IsFirst
--- fault n p`: p is below n and has the fault, and no place before it has it.
+-- Fault n p`: p is below n and has the fault, and no place before it has it.
 pub data Reason (file : List ℕ) (room number p : ℕ) : Type 0 where
   -- 1 to 3: too few bytes, a size outside its range, another length (file/specs/Reasons.antt)
   layout-broken : LayoutReason recordLayout (InRange file) file number p → Reason file room number p
@@ -22,7 +21,9 @@ pub data Reason (file : List ℕ) (room number p : ℕ) : Type 0 where
   -- "6. The goal's number is F or more (place 0)."
   goal-outside : number ≡ 6 → p ≡ 0 → formulas file ≤ goal file → Reason file room number p
   -- "7. A statement's number is F or more (place: the first such position)."
-  statement-outside : number ≡ 7 → IsFirst (λ i. leb (formulas file) (getD (statements file) i 0)) (length (statements file)) p → Reason file room number p
+  statement-outside :
+      number ≡ 7 → IsFirst (λ i. formulas file ≤ getD (statements file) i 0) (length (statements file)) p
+      → Reason file room number p
   -- "8. The lent list is shorter than the number of signers (place 0)."
   list-short : number ≡ 8 → p ≡ 0 → room < length (signers file) → Reason file room number p
   -- 9 to 14, which "run in this order at each step, steps in file order", and 15: the walk stops at p

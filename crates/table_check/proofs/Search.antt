@@ -9,11 +9,9 @@ use lib.Dec.{eqb}
 use lib.ListN.{length, getD, set}
 use lib.Seq.{getD-set-same}
 use borrow.Author.Tests.{eqb-true}
-use Rattle.basics.specs.declared.place.Place.{Place}
-use Rattle.basics.specs.declared.place.Place.the-variants.{At, Nowhere}
 use Rattle.basics.specs.First.{first, found}
 use Rattle.basics.proofs.Choice.{both-true}
-use Rattle.basics.proofs.First.{no-place}
+use Rattle.basics.proofs.First.{no-place, is-found}
 use Rattle.table.specs.Tests.{same}
 use Rattle.table_check.specs.Index.{root, key, onward, Meets, here, further, Found, Indexed}
 use Rattle.table_check.proofs.Trees.{kept, indexed-more}
@@ -22,11 +20,6 @@ use Rattle.table_check.proofs.Trees.{kept, indexed-more}
 untrue : (b : Bool) → (b ≡ true → ⊥) → b ≡ false
 untrue true h = absurd (h refl)
 untrue false h = refl
-
--- A place that can't be nowhere was found.
-somewhere : (p : Place) → (p ≡ Nowhere → ⊥) → found p ≡ true
-somewhere (At i) h = refl
-somewhere Nowhere h = absurd (h refl)
 
 -- From an empty slot nothing is met.
 meets-none : (roots : ℕ) (slots : List ℕ) (k p x : ℕ) → getD slots p 0 ≡ 0 → Meets roots slots k p x → ⊥
@@ -100,7 +93,7 @@ module _ (hs ss : List ℕ) (roots : ℕ) (slots : List ℕ) (i : ℕ) where
         -- (if it is, one is found),
         pub search-finds : same hs ss i (link - 1) ≡ true → found (first (same hs ss i) i) ≡ true
         search-finds e =
-            somewhere (first (same hs ss i) i)
+            is-found (first (same hs ss i) i)
             (λ none. true≢false (sym e ∙ no-place (same hs ss i) i .0 none (link - 1) (omega (arith, s .earlier))))
 
       -- and ends where there is none:
