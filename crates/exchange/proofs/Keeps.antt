@@ -1,15 +1,17 @@
--- No test applies exactly when a file keeps the layout and its limits, and the walk closes. Assumes nothing.
+-- None of 1 to 5 and 7 applies exactly when a file keeps the layout and its limits; and no test does exactly when
+-- besides the walk closes. Assumes nothing.
 use Prim.Native.Nat.{ℕ, _<_}
 use mathlib.Core.Path.{_≡_}
 use mathlib.Core.Logic.{_↔_, Iff·trans, ⊎-elim}
-use mathlib.Core.List.{List, _++_, List·Memᴰ·append-cases}
+use mathlib.Core.List.{List, [], _∷_, _++_, List·Memᴰ·append-cases}
 use Rattle.basics.specs.declared.place.Place.the-variants.{Nowhere}
 use Rattle.basics.specs.Membership.{_∈_}
-use Rattle.basics.specs.Refusals.{NoneApplies}
+use Rattle.basics.specs.Refusals.{Test, test, NoneApplies}
 use Rattle.basics.proofs.Membership.{⊆-left, ⊆-right}
 use Rattle.file.specs.Layout.{layoutTests}
 use Rattle.file.proofs.LayoutLaws.{none-to-3}
 use Rattle.file.proofs.Outside.{none-outside}
+use Rattle.table.specs.Tests.{entryTests}
 use Rattle.table.proofs.Ordered.{no-fault-ordered}
 use Rattle.table.proofs.Unlike.{not-repeated}
 use Rattle.steps.specs.declared.verdict.WalkVerdict.the-variants.{Closed}
@@ -34,29 +36,44 @@ module _ (file : List ℕ) where
         λ (first, second). from (λ n m. ⊎-elim (first n) (second n) (List·Memᴰ·append-cases (firstList file) m)),
       )
 
+  -- 1 to 5 and 7
+  abbrev pub to-7 : List Test
+  to-7 =
+      layoutTests exchangeLayout file
+      ++ (entryTests (heads file) (seconds file) ++ (test 7 (statementOutside file) ∷ []))
+
+  -- None of them applies exactly when the file keeps the layout and its limits.
+  pub none-to-7 : NoneApplies to-7 ↔ Keeps file
+  none-to-7 =
+      let ordered = no-fault-ordered (table file) in
+      let unlike = not-repeated (heads file) (seconds file) in (
+        λ (one, (two, (three, (four, (five, (seven, _)))))).
+            let (first, second) = statements-in .0 seven in
+            record {
+              sized = none-to-3-is .0 (one, (two, (three, tt)));
+              ordered = ordered .0 four;
+              none-repeated = unlike .0 five;
+              first-in = first;
+              second-in = second;
+            },
+        λ keeps.
+            let (one, (two, (three, _))) = none-to-3-is .1 (keeps .sized) in
+            let four = ordered .1 (keeps .ordered) in
+            let five = unlike .1 (keeps .none-repeated) in
+            (one, (two, (three, (four, (five, (statements-in .1 (keeps .first-in, keeps .second-in), tt)))))),
+      )
+
   -- the walk closes
   abbrev pub Closes : Type 0
   Closes = (q : ℕ) × (stepVerdict file ≡ Closed q)
 
   pub none-applies : NoneApplies (tests file) ↔ (Keeps file × Closes)
   none-applies =
-      let ordered = no-fault-ordered (table file) in
-      let unlike = not-repeated (heads file) (seconds file) in
+      let (to, from) = none-to-7 in
       let closes = walked-nowhere (stepVerdict file) in (
         λ (one, (two, (three, (four, (five, (seven, (walk, _))))))).
-            let (first, second) = statements-in .0 seven in (
-              record {
-                sized = none-to-3-is .0 (one, (two, (three, tt)));
-                ordered = ordered .0 four;
-                none-repeated = unlike .0 five;
-                first-in = first;
-                second-in = second;
-              },
-              closes .0 walk,
-            ),
+            (to (one, (two, (three, (four, (five, (seven, tt)))))), closes .0 walk),
         λ (keeps, closed).
-            let (one, (two, (three, _))) = none-to-3-is .1 (keeps .sized) in
-            let four = ordered .1 (keeps .ordered) in
-            let five = unlike .1 (keeps .none-repeated) in
-            (one, (two, (three, (four, (five, (statements-in .1 (keeps .first-in, keeps .second-in), (closes .1 closed, tt))))))),
+            let (one, (two, (three, (four, (five, (seven, _)))))) = from keeps in
+            (one, (two, (three, (four, (five, (seven, (closes .1 closed, tt))))))),
       )

@@ -8,6 +8,7 @@ pub mod Carries
 pub mod Equal
 pub mod Positions
 pub mod Reasons
+pub mod Kept
 pub mod Small
 pub mod Longer
 pub mod Samples

@@ -28,6 +28,15 @@ EqualOnlyInForce = (file : List ℕ) → exchangeAnswer file ≡ Equal → Equal
 abbrev pub RefusedExactly : Type 0
 RefusedExactly = (file : List ℕ) (number p : ℕ) → exchangeAnswer file ≡ Refused number p ↔ FirstReason checkingOrder (Reason file) number p
 
+-- "a refusal of the list above without 6 and 8" (01)
+abbrev pub NeverSixOrEight : Type 0
+NeverSixOrEight =
+    (file : List ℕ) (p : ℕ) → (¬ (exchangeAnswer file ≡ Refused 6 p)) × (¬ (exchangeAnswer file ≡ Refused 8 p))
+
+-- "within the limits" is that none of 1 to 5 and 7 applies. (How deep the steps of the proofs are is in `CarriesAll`.)
+abbrev pub KeepsExactly : Type 0
+KeepsExactly = (file : List ℕ) → Keeps file ↔ ((number p : ℕ) → number ≤ 7 → ¬ Reason file number p)
+
 -- "Two empty lists with N = 0 are equal." (01)
 abbrev pub EmptyListsEqual : Type 0
 EmptyListsEqual =

@@ -6,6 +6,7 @@ pub mod Answered
 pub mod IsProof
 pub mod Granted
 pub mod Reasons
+pub mod Kept
 pub mod Small
 pub mod Longer
 pub mod SameSet

@@ -33,6 +33,10 @@ GrantedExactly = (file : List ℕ) (room count : ℕ) → recordAnswer file room
 abbrev pub RefusedExactly : Type 0
 RefusedExactly = (file : List ℕ) (room number p : ℕ) → recordAnswer file room ≡ Refused number p ↔ FirstReason checkingOrder (Reason file room) number p
 
+-- "keeps the layout and its limits" is that none of 1 to 7 applies.
+abbrev pub KeepsExactly : Type 0
+KeepsExactly = (file : List ℕ) (room : ℕ) → Keeps file ↔ ((number p : ℕ) → number ≤ 7 → ¬ Reason file room number p)
+
 -- How large an answer can be.
 abbrev pub Small : RecordVerdict → Type 0
 Small (Granted count) = count ≤ mostStatements
