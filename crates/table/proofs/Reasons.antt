@@ -66,29 +66,32 @@ module _ (i head second : ℕ) where
   false-right is y z (second-not-lower k k′ l) = omega arith
 
   -- with two formulas as operands, either may be at fault
+  found-two : 2 ≤ upper head → upper head ≤ 4 → (ltb (lower head) i ≡ false) ⊎ (ltb second i ≡ false) → Wrong
+  found-two least most (inl e) = let l = ltb-false (lower head) i e in first-not-lower least most (omega arith)
+  found-two least most (inr e) = let l = ltb-false second i e in second-not-lower least (omega arith) (omega arith)
+
   of-two : 2 ≤ upper head → upper head ≤ 4 → Wrong → (ltb (lower head) i ≡ false) ⊎ (ltb second i ≡ false)
   of-two least most (no-kind k) = absurd (omega arith)
   of-two least most (atom-second k other) = absurd (omega arith)
   of-two least most (false-first k other) = absurd (omega arith)
   of-two least most (false-second k other) = absurd (omega arith)
-  of-two least most (first-not-lower k k′ l) = inl (le-ltb _ _ l)
-  of-two least most (second-not-lower k k′ l) = inr (le-ltb _ _ l)
+  of-two least most (first-not-lower k k′ l) = inl (le-ltb (lower head) i (omega arith))
+  of-two least most (second-not-lower k k′ l) = inr (le-ltb second i (omega arith))
 
   two : 2 ≤ upper head → upper head ≤ 4 → both (ltb (lower head) i) (ltb second i) ≡ false ↔ Wrong
-  two least most = Iff·trans (both-false (ltb (lower head) i) (ltb second i)) (
-    ⊎-elim (λ e. first-not-lower least most (ltb-false _ _ e))
-        (λ e. second-not-lower least (omega arith) (ltb-false _ _ e)),
-    of-two least most,
-  )
+  two least most = Iff·trans (both-false (ltb (lower head) i) (ltb second i)) (found-two least most, of-two least most)
 
   -- and in what a principal says the second alone
+  found-one : upper head ≡ 5 → ltb second i ≡ false → Wrong
+  found-one is e = let l = ltb-false second i e in second-not-lower (omega arith) (omega arith) (omega arith)
+
   of-one : upper head ≡ 5 → Wrong → ltb second i ≡ false
   of-one is (no-kind k) = absurd (omega arith)
   of-one is (atom-second k other) = absurd (omega arith)
   of-one is (false-first k other) = absurd (omega arith)
   of-one is (false-second k other) = absurd (omega arith)
   of-one is (first-not-lower k k′ l) = absurd (omega arith)
-  of-one is (second-not-lower k k′ l) = le-ltb _ _ l
+  of-one is (second-not-lower k k′ l) = le-ltb second i (omega arith)
 
   -- kind by kind, in the order of `kinds`
   by-kind : (kind : ℕ) → upper head ≡ kind → Finds (getD (kinds (lower head) second) kind IllFormed)
@@ -105,8 +108,7 @@ module _ (i head second : ℕ) where
   by-kind (suc (suc zero)) is = two (omega arith) (omega arith)
   by-kind (suc (suc (suc zero))) is = two (omega arith) (omega arith)
   by-kind (suc (suc (suc (suc zero)))) is = two (omega arith) (omega arith)
-  by-kind (suc (suc (suc (suc (suc zero))))) is =
-      (λ e. second-not-lower (omega arith) (omega arith) (ltb-false _ _ e), of-one is)
+  by-kind (suc (suc (suc (suc (suc zero))))) is = (found-one is, of-one is)
   by-kind (suc (suc (suc (suc (suc (suc kind)))))) is = wrong (no-kind (omega arith))
 
 pub wrong-exactly : WrongExactly
@@ -128,7 +130,7 @@ module _ (hs ss : List ℕ) (p : ℕ) where
       let (j, at) = found-at (first (same hs ss p) p) e in
       let is = first-place (same hs ss p) Same p (λ k l. same-is k) j .0 at in
       let (h, s) = is .is-fault in
-      record { earlier = j; is-earlier = is .within; same-head = h; same-second = s }
+      record { earlier = j; is-earlier = is .within; same-head = cc; same-second = cc }
 
   then-found : Repeats hs ss p → found (first (same hs ss p) p) ≡ true
   then-found r =
