@@ -2,13 +2,13 @@
 use Prim.Native.Nat.{ℕ, suc, _<_, _≤_}
 use native.Mathlib.Omega.{arith}
 use native.Mathlib.Decide.{decLt}
-use mathlib.Core.Path.{_≡_, refl, sym, ap, ap₂, _∙_}
+use mathlib.Core.Path.{_≡_, refl, sym, ap, _∙_}
 use mathlib.Core.List.{List, [], _∷_, _++_, append-assoc, append-nil}
 use lib.ListN.{length, take, drop, List·getD-append, List·getD-eq-default}
 use lib.Seq.{length-take-le, append-snoc, split-at, getD-at}
 use Rattle.basics.specs.Membership.{_∈_}
 use Rattle.basics.proofs.Membership.{first, second}
-use Rattle.logic.specs.Proposition.{Proposition, false, _implies_, _and_, _or_, _says_}
+use Rattle.logic.specs.Proposition.{Proposition, false, _says_}
 use Rattle.table.specs.declared.entry.Formula.{Formula}
 use Rattle.table.specs.declared.entry.Entry.{Entry}
 use Rattle.table.specs.declared.entry.Entry.the-variants.{Atom, False, Implies, And, Or, Says, IllFormed}
@@ -44,9 +44,9 @@ same-operands : (made made′ : List Proposition) (e : Entry) → ((f : Formula)
     → proposition made e ≡ proposition made′ e
 same-operands made made′ (Atom a) same = refl
 same-operands made made′ False same = refl
-same-operands made made′ (Implies f g) same = ap₂ _implies_ (same f first) (same g second)
-same-operands made made′ (And f g) same = ap₂ _and_ (same f first) (same g second)
-same-operands made made′ (Or f g) same = ap₂ _or_ (same f first) (same g second)
+same-operands made made′ (Implies f g) same = cc (same f first, same g second)
+same-operands made made′ (And f g) same = cc (same f first, same g second)
+same-operands made made′ (Or f g) same = cc (same f first, same g second)
 same-operands made made′ (Says k f) same = ap (λ A. k .0 says A) (same f first)
 same-operands made made′ IllFormed same = refl
 
