@@ -1,18 +1,61 @@
 -- The demands are met (specs/Demands.antt). Assumes nothing.
-use Rattle.record.proofs.Granted.{granted-exactly}
-use Rattle.record.proofs.Reasons.{refused-exactly}
+use Prim.Native.Nat.{ℕ}
+use native.Mathlib.Omega.{arith}
+use mathlib.Core.Path.{_≡_, refl, sym, ap, _∙_}
+use mathlib.Core.Logic.{_↔_, _⊎_, inl, inr}
+use mathlib.Core.List.{List}
+use Rattle.basics.specs.Limits.{mostStatements}
+use Rattle.record.specs.Answer.{recordAnswer}
+use Rattle.exchange.specs.declared.verdict.ExchangeVerdict.{ExchangeVerdict}
+use Rattle.exchange.specs.declared.verdict.ExchangeVerdict.the-variants.{Equal, Refused}
+use Rattle.exchange.specs.Answer.{exchangeAnswer}
+use Rattle.exchange.specs.Proofs.{Keeps, CarriesAll}
 use Rattle.exchange.proofs.Force.{force-by-statements, goal-kept}
 use Rattle.exchange.proofs.Equal.{equal-exactly, equal-only-in-force}
-use Rattle.demands.specs.Demands.{Demands}
+use Rattle.exchange.proofs.Reasons.{refused-exactly}
+use Rattle.exchange.proofs.Kept.{never-six-or-eight}
+use Rattle.line.proofs.Printed.{whole-line, whole-exchange-line}
+use Rattle.demands.specs.Demands.{Demands, FirstOfExchange}
+use Rattle.demands.proofs.Calls as Calls
 use Rattle.demands.proofs.Releases.{kept-by-force, kept-by-exchange, old-releases-kept}
+
+-- an answer that is the check's has what holds of the check's
+same-answer : (file : List ℕ) {v answer : ExchangeVerdict} {P : Type 0}
+    → answer ≡ exchangeAnswer file → exchangeAnswer file ≡ v ↔ P → answer ≡ v ↔ P
+same-answer file is (to, from) = (λ e. to (sym is ∙ e), λ p. is ∙ from p)
+
+exchange-decided : (file : List ℕ) (v : ExchangeVerdict) → exchangeAnswer file ≡ v
+    → (Keeps file × CarriesAll file) ⊎ ((number : ℕ) × (p : ℕ) × FirstOfExchange file number p)
+exchange-decided file Equal e = inl (equal-exactly file .0 e)
+exchange-decided file (Refused number p) e = inr (number, p, refused-exactly file number p .0 e)
 
 pub demands : Demands
 demands = record {
-  granted-exactly = granted-exactly;
-  refused-exactly = refused-exactly;
+  granted = Calls.granted;
+  refused = Calls.refused;
+  either = Calls.either;
+  never-both = Calls.never-both;
+  one-first = Calls.one-first;
+  nothing-else = Calls.nothing-else;
+  printed = λ file line count after printed room. (
+    recordAnswer file mostStatements,
+    printed .list,
+    record { answer-is = refl; list-after = printed .list-after },
+    whole-line file line count after printed room,
+  );
   force-by-statements = force-by-statements;
-  equal-exactly = equal-exactly;
+  equal-exactly = λ file answer is. same-answer file is (equal-exactly file);
   equal-only-in-force = equal-only-in-force;
+  exchange-refused = λ file answer is number p. same-answer file is (refused-exactly file number p);
+  exchange-either = λ file. exchange-decided file (exchangeAnswer file) refl;
+  exchange-never-both = λ file number p carries first.
+      let e : Equal ≡ Refused number p = sym (equal-exactly file .1 carries) ∙ refused-exactly file number p .1 first in
+      let z : _≡_ {A = ℕ} 0 1 = cc in omega arith;
+  not-6-nor-8 = λ file number p first.
+      let e : exchangeAnswer file ≡ Refused number p = refused-exactly file number p .1 first in
+      let (not-6, not-8) = never-six-or-eight file p in
+      (λ six. not-6 (e ∙ ap (λ n. Refused n p) six), λ eight. not-8 (e ∙ ap (λ n. Refused n p) eight));
+  exchange-printed = whole-exchange-line;
   goal-kept = goal-kept;
   kept-by-force = kept-by-force;
   kept-by-exchange = kept-by-exchange;

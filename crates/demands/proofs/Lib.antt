@@ -2,4 +2,5 @@
 pub mod Releases
 pub mod Samples
 pub mod EachRule
+pub mod Calls
 pub mod Demands

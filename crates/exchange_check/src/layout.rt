@@ -1,7 +1,7 @@
 // Tests 1 to 3: the sizes and the length of an exchange file; and room for the longest.
 ghost use Prim.Native.Nat.{suc};
 ghost use mathlib.Core.Path.{_≡_};
-ghost use lib.ListN.{length};
+ghost use lib.ListN.{replicate};
 ghost use Rattle.basics.specs.Refusals.{firstRefusal};
 ghost use Rattle.file.specs.Layout.{layoutTests};
 ghost use Rattle.exchange.specs.Layout.{exchangeLayout, mostBytes};
@@ -19,7 +19,7 @@ const MOST_BYTES: usize = 2 * MOST_WORDS;
 
 // As `record_check::layout::file_buffer`, for the longest exchange file.
 pub fn file_buffer() -> [u8; MOST_BYTES + 1]
-    ensures { λ r. ⌜ suc mostBytes ≡ length r ⌝ }
+    ensures { λ r. ⌜ r ≡ replicate (suc mostBytes) 0 ⌝ }
 {
     [0; MOST_BYTES + 1]
 }

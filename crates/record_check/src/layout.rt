@@ -1,7 +1,7 @@
 // Tests 1 to 3: the sizes and the length of a record; and room for the longest.
 ghost use Prim.Native.Nat.{suc};
 ghost use mathlib.Core.Path.{_≡_};
-ghost use lib.ListN.{length};
+ghost use lib.ListN.{replicate};
 ghost use Rattle.basics.specs.Refusals.{firstRefusal};
 ghost use Rattle.file.specs.Layout.{layoutTests};
 ghost use Rattle.record.specs.Layout.{recordLayout, mostBytes};
@@ -17,10 +17,10 @@ pub(crate) const MOST_WORDS: usize = 4 + 2 * MOST_FORMULAS + MOST_STATEMENTS + M
 
 const MOST_BYTES: usize = 2 * MOST_WORDS;
 
-// Bytes for a file, one more than the longest record has: so a longer file is seen to be longer, and its answer is that
-// of the bytes here (`LongerFile`). Free: what they hold before a file is read into them.
+// Bytes for a file, one more than the longest record has, all 0: so a longer file is seen to be longer, and its answer is
+// that of the bytes here (`LongerFile`).
 pub fn file_buffer() -> [u8; MOST_BYTES + 1]
-    ensures { λ r. ⌜ suc mostBytes ≡ length r ⌝ }
+    ensures { λ r. ⌜ r ≡ replicate (suc mostBytes) 0 ⌝ }
 {
     [0; MOST_BYTES + 1]
 }

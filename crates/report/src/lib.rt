@@ -1,7 +1,7 @@
 // A file's check and the line of its answer: all that a program does but reading and writing.
 ghost use Prim.Native.Nat.{_≤_};
 ghost use mathlib.Core.Path.{_≡_};
-ghost use lib.ListN.{length, take};
+ghost use lib.ListN.{length, replicate, take};
 ghost use Rattle.exchange.specs.Answer.{exchangeAnswer};
 ghost use Rattle.line.specs.ExchangeLine.{exchangeLine};
 ghost use Rattle.line.specs.Line.{lineAfter, lineCount};
@@ -17,10 +17,9 @@ use record_check::check::check_record;
 // a blank.
 const MOST_LINE: usize = 8 + 3 + MOST_STATEMENTS * 6 + 1;
 
-// Bytes for a line: every line has room (`WholeLine`, `WholeExchangeLine`). Free: what they hold before a line is
-// written.
+// Bytes for a line, all 0: every line has room (`WholeLine`, `WholeExchangeLine`).
 pub fn line_buffer() -> [u8; MOST_LINE]
-    ensures { λ r. ⌜ mostLine ≡ length r ⌝ }
+    ensures { λ r. ⌜ r ≡ replicate mostLine 0 ⌝ }
 {
     [0; MOST_LINE]
 }

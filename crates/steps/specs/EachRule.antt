@@ -11,6 +11,7 @@ use Rattle.table.specs.declared.entry.Entry.{Entry}
 use Rattle.table.specs.Entry.{formula, principal}
 use Rattle.table.specs.Tests.{entries}
 use Rattle.table.specs.Number.{number}
+use Rattle.table.specs.Samples.{unlikeHeads, unlikeSeconds}
 use Rattle.steps.specs.declared.goal.Goal.{Goal}
 use Rattle.steps.specs.declared.goal.Goal.the-variants.{True, Affirms}
 use Rattle.steps.specs.declared.opened.Opened.{Opened}
@@ -19,9 +20,10 @@ use Rattle.steps.specs.Obligation.{alone, adding, addingBoth}
 use Rattle.steps.specs.Words.{words}
 use Rattle.steps.specs.Figure1.{step}
 
--- The table: 0 atom 9; 1 false; 2 is 0 implies 1; 3 is 1 and 2; 4 is 2 or 0; 5 principal 7 says 4.
+-- The table (`EachKind` of `table`): 0 atom 9; 1 false; 2 is 0 implies 1; 3 is 1 and 2; 4 is 2 or 0; 5 principal 7 says
+-- 4.
 abbrev pub unlike : List Entry
-unlike = entries (9 ∷ 4096 ∷ 8192 ∷ 12289 ∷ 16386 ∷ 20487 ∷ []) (0 ∷ 0 ∷ 1 ∷ 2 ∷ 0 ∷ 4 ∷ [])
+unlike = entries unlikeHeads unlikeSeconds
 
 -- ---- the machine
 
