@@ -6,7 +6,11 @@ use mathlib.Core.Path.{_≡_, refl, sym, ap, ap₂, _∙_}
 use mathlib.Core.List.{List, [], _∷_, List·Memᴰ·head, List·Memᴰ·tail}
 use lib.ListN.{length, getD, take, drop, length-take, List·getD-eq-default}
 use lib.Seq.{getD-take, getD-drop, take-all}
-use Rattle.file.specs.Words.{fileWords, wordAt, fileOf, PartAt, WordsOfFile, FileOfWords, HalfAsMany}
+use Rattle.file.specs.Words.{fileWords, wordAt, fileOf, LowByteFirst, PartAt, WordsOfFile, FileOfWords, HalfAsMany}
+
+pub low-byte-first : LowByteFirst
+unfolding fileWords
+low-byte-first = refl
 
 pub words-of-file : WordsOfFile
 unfolding fileWords fileOf

@@ -11,6 +11,10 @@ fileWords [] = []
 fileWords (low ∷ []) = []
 fileWords (low ∷ high ∷ bytes) = (low + 256 * high) ∷ fileWords bytes
 
+-- Principal 7's head, 20,487, and 01's formula number 1 as bytes.
+abbrev pub LowByteFirst : Type 0
+LowByteFirst = fileWords (7 ∷ 80 ∷ 1 ∷ 0 ∷ []) ≡ 20487 ∷ 1 ∷ []
+
 -- the word at a position, 0 past the end
 abbrev pub wordAt : List ℕ → ℕ → ℕ
 wordAt file i = getD (fileWords file) i 0
