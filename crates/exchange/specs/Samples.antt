@@ -54,14 +54,17 @@ rows =
 abbrev pub Samples : Type 0
 Samples = Hold rows
 
--- Where two tests apply, the first counts, and no 6 nor 8 is among them. In order: no byte at all; F is 0, and the
--- length is wrong; 257 statements in the first list, and in the second; 16,385 steps; a word too many; a repeated entry
--- at 1 and a wrong one at 2; and 7 through both lists: at 1 in the first, at 1 + 0 and 1 + 1 in the second, and in
--- both, before any step.
+-- Where two tests apply, the first counts, and no 6 nor 8 is among them. In order: no byte at all; the limits of F, S1,
+-- S2 and N: F is 0, 1 and 4,097, all are at their most, and one list or N is past it, where the length is wrong too, so
+-- that what passes 2 meets 3; a word too many; a repeated entry at 1 and a wrong one at 2; and 7 through both lists: at
+-- 1 in the first, at 1 + 0 and 1 + 1 in the second, and in both, before any step.
 abbrev pub order : List Sample
 order =
     row [] (Refused 1 0)
     ∷ row (0 ∷ 0 ∷ 0 ∷ 1 ∷ []) (Refused 2 0)
+    ∷ row (1 ∷ 0 ∷ 0 ∷ 0 ∷ []) (Refused 3 0)
+    ∷ row (4097 ∷ 0 ∷ 0 ∷ 0 ∷ []) (Refused 2 0)
+    ∷ row (4096 ∷ 256 ∷ 256 ∷ 16384 ∷ []) (Refused 3 0)
     ∷ row (1 ∷ 257 ∷ 0 ∷ 0 ∷ []) (Refused 2 0)
     ∷ row (1 ∷ 0 ∷ 257 ∷ 0 ∷ []) (Refused 2 0)
     ∷ row (1 ∷ 0 ∷ 0 ∷ 16385 ∷ []) (Refused 2 0)

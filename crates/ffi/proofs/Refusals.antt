@@ -2,9 +2,12 @@
 -- nothing.
 use Prim.Native.Nat.{ℕ, _/_, _%_, _≤_}
 use native.Mathlib.Omega.{arith}
-use mathlib.Core.Path.{_≡_}
+use mathlib.Core.Path.{_≡_, refl}
 use Rattle.basics.specs.Limits.{mostSteps}
-use Rattle.ffi.specs.RefusalCode.{half, refusalCode, RefusalHalves}
+use Rattle.ffi.specs.RefusalCode.{half, refusalCode, CodeIs, RefusalHalves}
+
+pub code-is : CodeIs
+code-is = refl
 
 -- A place in a file is less than 2^32, so the number is all of the upper half.
 pub refusal-halves :
