@@ -12,7 +12,7 @@ use Rattle.basics.specs.declared.place.Place.the-variants.{At, Nowhere}
 use Rattle.basics.specs.declared.tested.Tested.the-variants.{Refused}
 use Rattle.basics.specs.Choice.{pick, both}
 use Rattle.basics.specs.Membership.{_∈_, holds}
-use Rattle.basics.specs.Refusals.{Test, firstRefusal, FirstThat}
+use Rattle.basics.specs.Refusals.{Test, firstRefusal, FirstThat, NoneApplies}
 use Rattle.basics.specs.Order.{checkingOrder, before, FirstReason, BeforeIsLower, FirstIsLowest, Samples}
 use Rattle.basics.proofs.Choice.{both-true, pick-cases}
 use Rattle.basics.proofs.Membership.{holds-member}
@@ -88,6 +88,18 @@ module _ (n number : ℕ) (ns : List ℕ) (other : ¬ (n ≡ number)) where
 not-at : (place : Place) → ((q : ℕ) → ¬ (place ≡ At q)) → place ≡ Nowhere
 not-at (At q) none = absurd (none q refl)
 not-at Nowhere none = refl
+
+-- No test applies exactly when none does with any number at any place.
+pub none-has : (ts : List Test) → NoneApplies ts ↔ ((number p : ℕ) → ¬ OneApplies ts number p)
+none-has [] = (λ none number p one. one, λ none. tt)
+none-has (t ∷ ts) =
+    let (to, from) = none-has ts in (
+      λ (nowhere, none) number p. ⊎-elim (λ (n, at). somewhere (sym at ∙ nowhere)) (to none number p),
+      λ none. (
+        not-at (t .place) (λ p at. none (t .number) p (inl (refl, at))),
+        from (λ number p one. none number p (inr one)),
+      ),
+    )
 
 -- A test that applies has one of the numbers.
 pub applying-in : (order : List ℕ) (ts : List Test) (n p : ℕ) → Follows order ts → OneApplies ts n p → n ∈ order

@@ -6,9 +6,9 @@ use mathlib.Core.Path.{_≡_, refl, sym}
 use mathlib.Core.Logic.{_↔_, _⊎_, inl, inr, ⊎-elim}
 use mathlib.Core.List.{List, [], _∷_}
 use Rattle.basics.specs.Refusals.{Test, test}
-use Rattle.basics.proofs.Order.{OneApplies, one-of-three}
+use Rattle.basics.proofs.Order.{OneApplies, one-of-three, none-has}
 use Rattle.file.specs.Layout.{layoutTests}
-use Rattle.file.proofs.Reasons.{layout-reasons, layout-small, none-has}
+use Rattle.file.proofs.Reasons.{layout-reasons, layout-small}
 use Rattle.table.specs.Tests.{entryTests}
 use Rattle.table.proofs.Reasons.{entry-reasons, entry-small}
 use Rattle.exchange.specs.Layout.{exchangeLayout, heads, seconds}

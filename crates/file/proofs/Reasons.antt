@@ -1,17 +1,15 @@
--- The reasons of 1 to 3 (specs/Reasons.antt) are these tests, where they apply; and of any tests, where none applies.
--- Assumes nothing.
+-- The reasons of 1 to 3 (specs/Reasons.antt) are these tests, where they apply. Assumes nothing.
 use Prim.Native.Nat.{ℕ, _≤_, _<_}
 use native.Mathlib.Omega.{arith}
 use mathlib.Core.Bool.{not}
-use mathlib.Core.Path.{_≡_, refl, sym, _∙_}
-use mathlib.Core.Logic.{_↔_, Iff·trans, inl, inr, ⊎-elim}
-use mathlib.Core.List.{List, [], _∷_}
+use mathlib.Core.Path.{_≡_, sym}
+use mathlib.Core.Logic.{_↔_, Iff·trans, inl, inr}
+use mathlib.Core.List.{List}
 use lib.ListN.{length}
 use lib.Dec.{eqb, ltb}
-use Rattle.basics.specs.declared.place.Place.{Place}
-use Rattle.basics.specs.declared.place.Place.the-variants.{At, Nowhere}
-use Rattle.basics.specs.Refusals.{Test, at0, NoneApplies}
-use Rattle.basics.proofs.Asked.{less, equal, other, at0-at, somewhere}
+use Rattle.basics.specs.declared.place.Place.the-variants.{At}
+use Rattle.basics.specs.Refusals.{at0}
+use Rattle.basics.proofs.Asked.{less, equal, other, at0-at}
 use Rattle.basics.proofs.Order.{OneApplies}
 use Rattle.file.specs.Layout.{Layout, bytes, leastBytes, inRange, layoutTests, AllFit}
 use Rattle.file.specs.Reasons.{LayoutReason, too-few-bytes, size-outside, other-length}
@@ -47,20 +45,3 @@ pub layout-small : {layout : Layout} {InRange : Type 0} {file : List ℕ} {numbe
 layout-small (too-few-bytes n z l) = (omega arith, omega arith, z)
 layout-small (size-outside n z outside) = (omega arith, omega arith, z)
 layout-small (other-length n z differs) = (omega arith, omega arith, z)
-
--- What is at no place is nowhere.
-not-at : (place : Place) → ((p : ℕ) → ¬ (place ≡ At p)) → place ≡ Nowhere
-not-at (At p) none = absurd (none p refl)
-not-at Nowhere none = refl
-
--- No test applies exactly when none does with any number at any place.
-pub none-has : (ts : List Test) → NoneApplies ts ↔ ((number p : ℕ) → ¬ OneApplies ts number p)
-none-has [] = (λ none number p one. one, λ none. tt)
-none-has (t ∷ ts) =
-    let (to, from) = none-has ts in (
-      λ (nowhere, none) number p. ⊎-elim (λ (n, at). somewhere (sym at ∙ nowhere)) (to none number p),
-      λ none. (
-        not-at (t .place) (λ p at. none (t .number) p (inl (refl, at))),
-        from (λ number p one. none number p (inr one)),
-      ),
-    )
