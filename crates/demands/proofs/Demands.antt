@@ -1,7 +1,7 @@
 -- The demands are met (specs/Demands.antt). Assumes nothing.
 use Prim.Native.Nat.{ℕ}
 use native.Mathlib.Omega.{arith}
-use mathlib.Core.Path.{_≡_, refl, sym, ap, _∙_}
+use mathlib.Core.Path.{_≡_, refl, sym, _∙_}
 use mathlib.Core.Logic.{_↔_, _⊎_, inl, inr}
 use mathlib.Core.List.{List}
 use Rattle.basics.specs.Limits.{mostStatements}
@@ -16,8 +16,8 @@ use Rattle.exchange.proofs.Reasons.{refused-exactly}
 use Rattle.exchange.proofs.Kept.{never-six-or-eight}
 use Rattle.line.proofs.Printed.{whole-line, whole-exchange-line}
 use Rattle.demands.specs.Demands.{Demands, FirstOfExchange}
-use Rattle.demands.proofs.Calls as Calls
-use Rattle.demands.proofs.Releases.{kept-by-force, kept-by-exchange, old-releases-kept}
+use Rattle.demands.proofs.Release as Release
+use Rattle.demands.proofs.OldReleases.{kept-by-force, kept-by-exchange, old-releases-kept}
 
 -- an answer that is the check's has what holds of the check's
 same-answer : (file : List ℕ) {v answer : ExchangeVerdict} {P : Type 0}
@@ -31,16 +31,17 @@ exchange-decided file (Refused number p) e = inr (number, p, refused-exactly fil
 
 pub demands : Demands
 demands = record {
-  granted = Calls.granted;
-  refused = Calls.refused;
-  either = Calls.either;
-  never-both = Calls.never-both;
-  one-first = Calls.one-first;
-  nothing-else = Calls.nothing-else;
+  granted = Release.granted;
+  refused = Release.refused;
+  either = Release.either;
+  never-both = Release.never-both;
+  one-first = Release.one-first;
+  nothing-else = Release.nothing-else;
   printed = λ file line count after printed room. (
     recordAnswer file mostStatements,
     printed .list,
-    record { answer-is = refl; list-after = printed .list-after },
+    refl,
+    printed .list-after,
     whole-line file line count after printed room,
   );
   force-by-statements = force-by-statements;
@@ -51,10 +52,7 @@ demands = record {
   exchange-never-both = λ file number p carries first.
       let e : Equal ≡ Refused number p = sym (equal-exactly file .1 carries) ∙ refused-exactly file number p .1 first in
       let z : _≡_ {A = ℕ} 0 1 = cc in omega arith;
-  not-6-nor-8 = λ file number p first.
-      let e : exchangeAnswer file ≡ Refused number p = refused-exactly file number p .1 first in
-      let (not-6, not-8) = never-six-or-eight file p in
-      (λ six. not-6 (e ∙ ap (λ n. Refused n p) six), λ eight. not-8 (e ∙ ap (λ n. Refused n p) eight));
+  never-six-or-eight = never-six-or-eight;
   exchange-printed = whole-exchange-line;
   goal-kept = goal-kept;
   kept-by-force = kept-by-force;

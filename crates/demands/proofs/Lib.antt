@@ -1,6 +1,6 @@
 -- The theorems whose statements are in specs/.
-pub mod Releases
+pub mod Release
+pub mod OldReleases
 pub mod Samples
 pub mod EachRule
-pub mod Calls
 pub mod Demands

@@ -8,88 +8,52 @@
 use Prim.Native.Nat.{ℕ, _≤_}
 use mathlib.Core.Path.{_≡_}
 use mathlib.Core.Logic.{_↔_, _⊎_}
-use mathlib.Core.List.{List, [], _∷_, _++_}
+use mathlib.Core.List.{List, _++_}
 use lib.ListN.{length, drop, replicate}
-use Rattle.basics.specs.Membership.{_∈_}
 use Rattle.basics.specs.Limits.{mostStatements}
 use Rattle.basics.specs.Order.{FirstReason, checkingOrder}
-use Rattle.signers.specs.Each.{SaysSome, EachOnce}
 use Rattle.record.specs.declared.verdict.RecordVerdict.{RecordVerdict}
-use Rattle.record.specs.declared.verdict.RecordVerdict.the-variants.{Granted, Refused}
-use Rattle.record.specs.Layout.{table, statements}
+use Rattle.record.specs.declared.verdict.RecordVerdict.the-variants.{Granted}
 use Rattle.record.specs.Answer.{recordAnswer}
 use Rattle.record.specs.ListAfter.{ListAfter}
-use Rattle.record.specs.Proof.{Keeps, IsProof}
-use Rattle.record.specs.Reasons.{Reason}
 use Rattle.exchange.specs.declared.verdict.ExchangeVerdict.{ExchangeVerdict}
 use Rattle.exchange.specs.declared.verdict.ExchangeVerdict.the-variants as Exchange
 use Rattle.exchange.specs.Answer.{exchangeAnswer}
 use Rattle.exchange.specs.Force as Force
-use Rattle.exchange.specs.Promises.{EqualOnlyInForce}
+use Rattle.exchange.specs.Promises.{EqualOnlyInForce, NeverSixOrEight}
 use Rattle.exchange.specs.Proofs as Proofs
 use Rattle.exchange.specs.Reasons as Reasons
 use Rattle.line.specs.RecordLine.{recordLine, mostLine}
 use Rattle.line.specs.Printed.{Printed, WholeExchangeLine}
-use Rattle.demands.specs.Releases.{KeptByForce, KeptByExchange, OldReleasesKept}
+use Rattle.demands.specs.Release.{Release, GrantedWithSigners, First, RefusedUntouched}
+use Rattle.demands.specs.OldReleases.{KeptByForce, KeptByExchange, OldReleasesKept}
 
--- ---- a call on a record
+-- "lends a list of 256 words" (01)
+abbrev pub lent : List ℕ
+lent = replicate mostStatements 0
 
--- What `check_record` ensures, in its two clauses: of its answer, and of the lent list before and after it. The other
--- two calls on a record make this one.
-pub record Call (file : List ℕ) (answer : RecordVerdict) (before after : List ℕ) : Type 0 where
-  pub answer-is : answer ≡ recordAnswer file (length before)
-  pub list-after : ListAfter file answer before after
-
--- its signers: those K who say something in what the statements spell, each once. FREE: their order, and nothing else.
-pub record Signers (file names : List ℕ) : Type 0 where
-  pub each : (K : ℕ) → K ∈ names ↔ SaysSome (table file) (statements file) K
-  pub once : EachOnce names
-
--- "A record that keeps the layout and its limits, whose words are a proof of its goal and whose signers fit the list
--- lent for them"
-pub record Release (file : List ℕ) (room : ℕ) : Type 0 where
-  pub keeps : Keeps file
-  pub is-proof : IsProof file
-  pub names : List ℕ
-  pub signers : Signers file names
-  pub fits : length names ≤ room
-
--- "is granted with its signers": they stand in the list from its start, and the words after them are as they were
-pub record GrantedWithSigners (file : List ℕ) (answer : RecordVerdict) (before after : List ℕ) : Type 0 where
-  pub names : List ℕ
-  pub signers : Signers file names
-  pub granted : answer ≡ Granted (length names)
-  pub written : after ≡ names ++ drop (length names) before
-
--- "the first reason in the fixed order that applies, with its place"
-abbrev pub First : List ℕ → ℕ → ℕ → ℕ → Type 0
-First file room number p = FirstReason checkingOrder (Reason file room) number p
-
--- "is refused by the first reason .., with its place, and the signers' list stays untouched"
-pub record RefusedByFirst (file : List ℕ) (answer : RecordVerdict) (before after : List ℕ) : Type 0 where
-  pub number : ℕ
-  pub place : ℕ
-  pub first : First file (length before) number place
-  pub refused : answer ≡ Refused number place
-  pub untouched : after ≡ before
-
--- the same reason of an exchange file
+-- The first reason of an exchange file.
 abbrev pub FirstOfExchange : List ℕ → ℕ → ℕ → Type 0
 FirstOfExchange file number p = FirstReason checkingOrder (Reasons.Reason file) number p
 
 -- ---- the demands
 
+-- A call on a record has an answer, and the lent list before and after it; the two hypotheses about them, wherever they
+-- stand here, are the two clauses of the contract of `check_record`. The one about an exchange's answer is the clause of
+-- the contract of `check_exchange`.
 pub record Demands : Type 0 where
   -- "1. A record that keeps the layout and its limits, whose words are a proof of its goal and whose signers fit the
   -- list lent for them, is granted with its signers."
   pub granted :
-      (file before after : List ℕ) (answer : RecordVerdict) → Call file answer before after
+      (file before after : List ℕ) (answer : RecordVerdict)
+      → answer ≡ recordAnswer file (length before) → ListAfter file answer before after
       → Release file (length before) → GrantedWithSigners file answer before after
   -- "Every other file, of any bytes and length, is refused by the first reason in the fixed order that applies, with
   -- its place, and the signers' list stays untouched; no entry point leaves a test to its caller."
   pub refused :
-      (file before after : List ℕ) (answer : RecordVerdict) → Call file answer before after
-      → ¬ Release file (length before) → RefusedByFirst file answer before after
+      (file before after : List ℕ) (answer : RecordVerdict)
+      → answer ≡ recordAnswer file (length before) → ListAfter file answer before after
+      → ¬ Release file (length before) → RefusedUntouched file answer before after
   -- That is: whatever the list's length, a file is a release or has a first reason, never both, and one first reason.
   pub either : (file : List ℕ) (room : ℕ) → Release file room ⊎ ((number : ℕ) × (p : ℕ) × First file room number p)
   pub never-both : (file : List ℕ) (room number p : ℕ) → Release file room → ¬ First file room number p
@@ -100,13 +64,15 @@ pub record Demands : Type 0 where
   -- long enough for the signers, the checker grants every such proof and nothing else." (`IsProof` has the derivation;
   -- every one is granted by the first field.)
   pub nothing-else :
-      (file before after : List ℕ) (answer : RecordVerdict) → Call file answer before after
+      (file before after : List ℕ) (answer : RecordVerdict)
+      → answer ≡ recordAnswer file (length before) → ListAfter file answer before after
       → (count : ℕ) → answer ≡ Granted count → Release file (length before)
-  -- The line that is written tells the answer and, of a grant, the signers as they stand in the list.
+  -- The line that `record_line` writes where there is room is that of such a call, with 256 words lent.
   pub printed :
       (file line : List ℕ) (count : ℕ) (after : List ℕ) → Printed file line count after → mostLine ≤ length line
       → (answer : RecordVerdict) × (list : List ℕ)
-      × Call file answer (replicate mostStatements 0) list × (after ≡ recordLine answer list ++ drop count line)
+      × (answer ≡ recordAnswer file (length lent)) × ListAfter file answer lent list
+      × (after ≡ recordLine answer list ++ drop count line)
   -- "3. Any two lists of statements over one table, of whatever length, are equal in force exactly when each statement
   -- of either list has a proof, of any size, from the other."
   pub force-by-statements : Force.ForceByStatements
@@ -126,7 +92,8 @@ pub record Demands : Type 0 where
       → (Proofs.Keeps file × Proofs.CarriesAll file) ⊎ ((number : ℕ) × (p : ℕ) × FirstOfExchange file number p)
   pub exchange-never-both :
       (file : List ℕ) (number p : ℕ) → Proofs.Keeps file × Proofs.CarriesAll file → ¬ FirstOfExchange file number p
-  pub not-6-nor-8 : (file : List ℕ) (number p : ℕ) → FirstOfExchange file number p → (¬ (number ≡ 6)) × (¬ (number ≡ 8))
+  pub never-six-or-eight : NeverSixOrEight
+  -- The line that `exchange_line` writes where there is room is that of the answer.
   pub exchange-printed : WholeExchangeLine
   -- ".. and the goal of every old release must then keep a proof, of any size, from it and the same signed papers":
   -- over one table, for lists equal in force, after an exchange, and with the old release's own papers

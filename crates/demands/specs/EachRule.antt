@@ -22,7 +22,7 @@ stated statements goal steps =
 -- 3, and with the premises in the other order, where B isn't added yet; 4;
 -- 5, and in the other order; 6, where both are needed, and what is neither of them isn't added;
 -- 7, and of the second operand; 8, and of the first;
--- 9, and in the other order; 11, and on a truth.
+-- 9, and in the other order; 11, and on the truth of the says-formula itself.
 abbrev pub rules : List Sample
 rules =
     a-record (stated (0 ∷ []) 0 (0 ∷ [])) prints "granted 0\n"
@@ -43,7 +43,7 @@ rules =
     ∷ a-record (stated (4 ∷ []) 4 (36868 ∷ 28672 ∷ 8192 ∷ 12290 ∷ 0 ∷ 16385 ∷ 32768 ∷ 0 ∷ [])) prints "granted 0\n"
     ∷ a-record (stated (4 ∷ []) 4 (36868 ∷ 32768 ∷ 0 ∷ 28672 ∷ 8192 ∷ 12290 ∷ 0 ∷ 16385 ∷ [])) prints "refused 12 place 2\n"
     ∷ a-record (stated (5 ∷ []) 5 (40960 ∷ 45061 ∷ 4096 ∷ 36868 ∷ 28672 ∷ 8192 ∷ 12290 ∷ 0 ∷ 16385 ∷ 32768 ∷ 0 ∷ [])) prints "granted 1 7\n"
-    ∷ a-record (stated (5 ∷ []) 4 (45061 ∷ [])) prints "refused 14 place 0\n"
+    ∷ a-record (stated (5 ∷ []) 5 (45061 ∷ [])) prints "refused 14 place 0\n"
     ∷ []
 
 abbrev pub EachRule : Type 0

@@ -8,6 +8,7 @@ use lib.ListN.{length}
 use Rattle.basics.specs.Membership.{_∈_}
 use Rattle.basics.specs.Limits.{mostFormulas, mostStatements, mostSteps, mostDepth}
 use Rattle.file.specs.Layout.{AllFit}
+use Rattle.logic.specs.Proposition.{Proposition}
 use Rattle.logic.specs.Judgment.{truth}
 use Rattle.logic.specs.Depth.{stepDepths}
 use Rattle.logic.specs.Figure1.{Derivation}
@@ -42,9 +43,16 @@ pub record Keeps (file : List ℕ) : Type 0 where
   pub goal-in : goal file < formulas file
   pub statements-in : (n : ℕ) → n ∈ statements file → n < formulas file
 
--- "whose words are a proof of its goal": a derivation in Figure 1 of what the goal's number spells, from what the
--- statements' numbers spell. Its words are the step words, and none of its steps is deeper than 512.
+-- what the statements' numbers spell, and what the goal's number spells
+abbrev pub statedBy : List ℕ → List Proposition
+statedBy file = spellAll (table file) (statements file)
+
+abbrev pub goalOf : List ℕ → Proposition
+goalOf file = spell (table file) (goal file)
+
+-- "whose words are a proof of its goal": a derivation in Figure 1 of what the goal spells, from what the statements
+-- spell. Its words are the step words, and none of its steps is deeper than 512.
 pub record IsProof (file : List ℕ) : Type 0 where
-  pub derivation : Derivation (spellAll (table file) (statements file)) (truth (spell (table file) (goal file)))
+  pub derivation : Derivation (statedBy file) (truth (goalOf file))
   pub within : (d : ℕ) → d ∈ stepDepths 1 derivation → d ≤ mostDepth
   pub words : steps file ≡ Derived.words (number (table file)) derivation

@@ -1,25 +1,27 @@
 -- Each rule once, by computation (specs/EachRule.antt). Assumes nothing.
-use Prim.Native.Nat.{ℕ}
-use mathlib.Core.Path.{_≡_, refl}
-use mathlib.Core.List.{List, [], _∷_, List·Memᴰ·head, List·Memᴰ·tail}
+use mathlib.Core.Path.{refl}
+use mathlib.Core.List.{List, _∷_, List·Memᴰ·tail}
 use native.Mathlib.Decide.{ℕ-discrete}
 use Rattle.basics.specs.Membership.{holds}
 use Rattle.basics.proofs.Membership.{first, second}
 use Rattle.logic.specs.Proposition.{Proposition}
-use Rattle.logic.specs.Judgment.{Judgment, truth, _affirms_}
+use Rattle.logic.specs.Judgment.{Judgment, truth}
 use Rattle.logic.specs.Derivation.{init, affirm, implies-right, implies-left, false-left, and-right, and-left, or-right-first, or-right-second, or-left, says-right, says-left}
 use Rattle.logic.specs.Figure1.{Derivation}
 use Rattle.table.specs.Entry.{entry}
 use Rattle.table.specs.Tests.{entries}
 use Rattle.table.specs.Spelled.{spelledAfter, spelled}
 use Rattle.table.specs.Number.{position, number}
-use Rattle.steps.specs.Words.{words}
 use Rattle.steps.specs.Step.{opens, step}
-use Rattle.steps.specs.EachRule.{unlike, OpensOfEach, p0, p1, p2, p3, p4, p5, Derived, WordsOfEach}
+use Rattle.steps.specs.EachRule.{OpensOfEach, RefusesOfEach, p0, p2, p4, WordsOfEach}
 
 pub opens-of-each : OpensOfEach
 unfolding step opens holds entries entry
 opens-of-each = refl
+
+pub refuses-of-each : RefusesOfEach
+unfolding step opens holds entries entry
+refuses-of-each = refl
 
 -- anything from p0 and p2, and p4 from p4
 abbrev by-p0-and-p2 : {Γ : List Proposition} {γ : Judgment} → Derivation (p0 ∷ p2 ∷ Γ) γ

@@ -6,14 +6,14 @@ use mathlib.Core.Bool.{Bool}
 use mathlib.Core.Path.{_≡_, sym, ap, subst, _∙_}
 use mathlib.Core.Option.{Option, none, some, Option·none-ne-some}
 use mathlib.Core.List.{List, map}
-use lib.ListN.{length, List·getD-eq-default}
+use lib.ListN.{List·getD-eq-default}
 use Rattle.table.specs.declared.entry.Formula.{Formula}
 use Rattle.table.specs.declared.entry.Principal.{Principal}
 use Rattle.table.specs.declared.entry.Entry.{Entry}
 use Rattle.table.specs.declared.entry.Entry.the-variants.{Says}
 use Rattle.table.specs.Tests.{entryAt}
 use Rattle.steps.specs.declared.goal.Goal.{Goal}
-use Rattle.steps.specs.Obligation.{goalFormula}
+use Rattle.steps.specs.declared.goal.Goal.the-variants.{True}
 use Rattle.steps.specs.Applies.{Named}
 use Rattle.steps.specs.Reasons as Kind
 use Rattle.steps.specs.Reasons.{kindOf, Row, rows, rowOf, GoalFits, AffirmedBy, StepReason, too-deep, no-rule, needless-part, not-held, outside, other-goal, other-kind, other-atom, not-served}
@@ -39,7 +39,7 @@ IsHeld es hs n r = (k : Kind.Kind) → r .named ≡ some k → Named es hs n
 pub record Fits (es : List Entry) (c n : ℕ) (g : Goal) (r : Row) : Type 0 where
   pub goal-fits : ¬ (c ≡ 11) → GoalFits es (r .below) g
   pub kind-fits : (k : Kind.Kind) → r .named ≡ some k → kindOf (entryAt es n) ≡ some k
-  pub atom-fits : c ≡ 0 → n ≡ goalFormula g
+  pub atom-fits : c ≡ 0 → (f : Formula) → g ≡ True f → n ≡ f .0
 
 abbrev pub IsServed : (ℕ → ℕ → Bool) → List Entry → ℕ → ℕ → Goal → Type 0
 IsServed speaks es c n g = c ≡ 11 → (k : Principal) (a : Formula) → entryAt es n ≡ Says k a → AffirmedBy speaks k g
@@ -70,7 +70,7 @@ module _ {speaks : ℕ → ℕ → Bool} {es : List Entry} {limit depth : ℕ} {
   in-range m (outside e is kind high) = (omega arith, omega arith)
   in-range m (other-goal e is not-11 other) = (omega arith, omega arith)
   in-range m (other-kind e is kind other) = (omega arith, omega arith)
-  in-range m (other-atom e is other) = (omega arith, omega arith)
+  in-range m (other-atom e is truth other) = (omega arith, omega arith)
   in-range m (not-served e is says unserved) = (omega arith, omega arith)
 
   passed : {b c n : ℕ} {g : Goal} {r : Row}
@@ -98,7 +98,7 @@ module _ {speaks : ℕ → ℕ → Bool} {es : List Entry} {limit depth : ℕ} {
         unless 13 e
         (λ l. other (subst (λ r. GoalFits es (r .below) g) (one-row c (past .eleven (omega arith) .0) is) (past .thirteen l .goal-fits not-11)))
     lowest-past (other-kind e is kind other) = unless 13 e (λ l. other (past .thirteen l .kind-fits _ (names-it (omega arith) is kind)))
-    lowest-past (other-atom e is other) = unless 13 e (λ l. other (past .thirteen l .atom-fits is))
+    lowest-past (other-atom e is truth other) = unless 13 e (λ l. other (past .thirteen l .atom-fits is _ truth))
     lowest-past (not-served e is says unserved) = unless 14 e (λ l. unserved (past .fourteen l is _ _ says))
 
   -- ---- the tests passed

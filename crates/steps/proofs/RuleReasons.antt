@@ -19,11 +19,14 @@ use Rattle.table.specs.Tests.{entryAt}
 use Rattle.steps.specs.declared.goal.Goal.{Goal}
 use Rattle.steps.specs.declared.goal.Goal.the-variants.{True, Affirms}
 use Rattle.steps.specs.declared.opened.Premise.{Premise}
-use Rattle.steps.specs.Obligation.{goalFormula}
 use Rattle.steps.specs.Applies.{Named, Applies, init, affirm, implies-right, implies-left, false-left, and-right, and-left, or-right-first, or-right-second, or-left, says-right, says-left}
 use Rattle.steps.specs.Reasons as Kind
 use Rattle.steps.specs.Reasons.{kindOf, Row, rowOf, GoalFits, AffirmedBy, StepReason, needless-part, not-held, outside, no-rule, other-goal, other-kind, other-atom, not-served}
 use Rattle.steps.proofs.Lowest.{Ruled, Least, Past, in-range, lowest-past, past-10, past-11, past-12, past-13, past-14}
+
+-- a goal is the truth of one formula
+same-truth : {f f′ : Formula} → True f ≡ True f′ → f .0 ≡ f′ .0
+same-truth e = cc
 
 -- an entry that is K's saying is nobody else's
 same-says : {k k′ : Principal} {a a′ : Formula} → Says k a ≡ Says k′ a′ → k ≡ k′
@@ -73,7 +76,7 @@ module _ {speaks : ℕ → ℕ → Bool} {es : List Entry} {limit depth : ℕ} {
   -- init names another atom than the goal's
   pub wrong-atom : {n : ℕ} → Named es hs n → (f : Formula) → ¬ (n ≡ f .0) → Least speaks es limit depth hs 0 n (True f) 13
   wrong-atom {n} h f other = record {
-    applies = other-atom refl refl other;
+    applies = other-atom refl refl refl other;
     lowest = lowest-past (past-12 shallow (ruled 0 refl n) (λ k i. h));
   }
 
@@ -98,7 +101,7 @@ module _ {speaks : ℕ → ℕ → Bool} {es : List Entry} {limit depth : ℕ} {
         (λ e. absurd (not-11 e))
 
     named-past : (b : Kind.Below) (k : Kind.Kind) → rowOf c ≡ some (Kind.row b (some k)) → {n : ℕ} → Named es hs n
-        → GoalFits es b g → kindOf (entryAt es n) ≡ some k → (c ≡ 0 → n ≡ goalFormula g) → Past speaks es limit depth hs 15 c n g (Kind.row b (some k))
+        → GoalFits es b g → kindOf (entryAt es n) ≡ some k → (c ≡ 0 → (f : Formula) → g ≡ True f → n ≡ f .0) → Past speaks es limit depth hs 15 c n g (Kind.row b (some k))
     named-past b k is {n} h fits kind atom =
         past-14 shallow (ruled c is n) (λ j e. h) record { goal-fits = λ e. fits; kind-fits = λ j e. kind ∙ e; atom-fits = atom } (λ e. absurd (not-11 e))
 
@@ -114,7 +117,7 @@ module _ {speaks : ℕ → ℕ → Bool} {es : List Entry} {limit depth : ℕ} {
   none-of past m why = let l = lowest-past past m why in let (lo, hi) = in-range m why in omega arith
 
   pub unrefused : {c n : ℕ} {g : Goal} {ps : List Premise} → Applies speaks es hs c n g ps → (m : ℕ) → ¬ StepReason speaks es limit depth hs c n g m
-  unrefused (init h e) = none-of (named-past 0 (λ z. omega arith) _ _ refl h (ap kindOf e) (ap kindOf e) (λ z. refl))
+  unrefused (init h e) = none-of (named-past 0 (λ z. omega arith) _ _ refl h (ap kindOf e) (ap kindOf e) (λ z f is. same-truth is))
   unrefused affirm = none-of (plain-past 1 (λ z. omega arith) _ refl (λ z. omega arith) tt)
   unrefused (implies-right e) = none-of (plain-past 2 (λ z. omega arith) _ refl (λ z. omega arith) (ap kindOf e))
   unrefused (implies-left h e) = none-of (named-past 3 (λ z. omega arith) _ _ refl h tt (ap kindOf e) (λ z. absurd (omega arith)))

@@ -5,13 +5,13 @@ use Prim.Native.Nat.{ℕ, _≤_, _<_}
 use native.Mathlib.Omega.{arith}
 use mathlib.Core.Bool.{Bool, true, false, true≢false}
 use mathlib.Core.Path.{_≡_, refl, sym, ap, subst, _∙_}
-use mathlib.Core.Logic.{_↔_, _⊎_, inl, inr, ⊎-elim}
-use mathlib.Core.Option.{Option, none, some, Option·none-ne-some}
-use mathlib.Core.List.{List, [], _∷_, map}
-use lib.ListN.{length, getD, List·getD-eq-default}
+use mathlib.Core.Logic.{_↔_}
+use mathlib.Core.Option.{none, some, Option·none-ne-some}
+use mathlib.Core.List.{List, [], _∷_}
+use lib.ListN.{length, getD}
 use lib.Dec.{eqb, ltb, leb}
-use borrow.Author.Tests.{ltb-true, ltb-false, leb-true, leb-false, eqb-true, eqb-false, lt-ltb, le-leb, eq-eqb}
-use Rattle.basics.specs.Membership.{_∈_, holds}
+use borrow.Author.Tests.{ltb-true, leb-true, leb-false, eqb-true, eqb-false, lt-ltb, le-leb, eq-eqb}
+use Rattle.basics.specs.Membership.{holds}
 use Rattle.basics.specs.Choice.{pick, both}
 use Rattle.basics.specs.Word.{upper, lower}
 use Rattle.basics.proofs.Choice.{both-true, pick-cases}
@@ -21,21 +21,20 @@ use Rattle.table.specs.declared.entry.Atom as A
 use Rattle.table.specs.declared.entry.Formula.{Formula}
 use Rattle.table.specs.declared.entry.Principal.{Principal}
 use Rattle.table.specs.declared.entry.Entry.{Entry}
-use Rattle.table.specs.declared.entry.Entry.the-variants.{Atom, False, Implies, And, Or, Says}
+use Rattle.table.specs.declared.entry.Entry.the-variants.{Atom, Says}
 use Rattle.table.specs.Tests.{entryAt}
 use Rattle.steps.specs.declared.goal.Goal.{Goal}
 use Rattle.steps.specs.declared.goal.Goal.the-variants.{True, Affirms}
 use Rattle.steps.specs.declared.opened.Premise.{Premise}
 use Rattle.steps.specs.declared.opened.Opened.{Opened}
 use Rattle.steps.specs.declared.opened.Opened.the-variants.{Refused, Closed, One, Two}
-use Rattle.steps.specs.Obligation.{Obligation, goalFormula, adding}
+use Rattle.steps.specs.Obligation.{Obligation, adding}
 use Rattle.steps.specs.Applies.{Named, Applies, init, affirm, implies-right, implies-left, false-left, and-right, and-left, or-right-first, or-right-second, or-left, says-right, says-left, Takes}
 use Rattle.steps.specs.Reasons as Kind
-use Rattle.steps.specs.Reasons.{kindOf, Row, rows, rowOf, GoalFits, AffirmedBy, StepReason, too-deep, no-rule, needless-part, not-held, outside, other-goal, other-kind, other-atom, not-served, ReasonAt, FirstAt}
+use Rattle.steps.specs.Reasons.{rowOf, too-deep, ReasonAt, FirstAt}
 use Rattle.steps.specs.Rules as Rules
 use Rattle.steps.specs.Rules.{servedBy}
 use Rattle.steps.specs.Step.{Rule, names, plain, unknown, rules, applied, opens, step}
-use Rattle.steps.specs.Run.{after}
 use Rattle.steps.specs.Steps.{premises, StepRefused, StepOpens, StepTaken}
 use Rattle.steps.proofs.Lowest.{Least, in-range}
 use Rattle.steps.proofs.RuleReasons.{no-rule-of, needless, plain-goal, unheld, named-kind, named-goal, wrong-atom, unserved, unrefused}

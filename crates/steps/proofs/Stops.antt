@@ -3,7 +3,7 @@
 use Prim.Native.Nat.{ℕ, suc, _+_, _≤_}
 use native.Mathlib.Omega.{arith}
 use mathlib.Core.Bool.{Bool}
-use mathlib.Core.Path.{_≡_, refl, sym, ap, subst, _∙_}
+use mathlib.Core.Path.{_≡_, refl, sym, ap, _∙_}
 use mathlib.Core.Option.{some, Option·none-ne-some}
 use mathlib.Core.List.{List, [], _∷_, _++_, map}
 use lib.ListN.{length, take, drop, take-append-drop}
@@ -23,7 +23,7 @@ use Rattle.steps.specs.Step.{step}
 use Rattle.steps.specs.Run.{after, allUsed, walk, run}
 use Rattle.steps.specs.Parts.{walkFrom}
 use Rattle.steps.specs.Steps.{premises}
-use Rattle.steps.specs.Stops.{Leaves, Stop, ended, refused, left-over, RefusedWhere}
+use Rattle.steps.specs.Stops.{LeftToProve, Stop, ended, refused, left-over, RefusedWhere}
 use Rattle.steps.proofs.Cases.{OfPremises}
 use Rattle.steps.proofs.Steps.{step-takes, step-refused, step-opens}
 use Rattle.steps.proofs.Closed.{refused-not-closed}
@@ -84,7 +84,7 @@ module _ (speaks : ℕ → ℕ → Bool) (limit : ℕ) (es : List Entry) where
 
   -- The walk goes on with what the words leave to prove:
   goes-on : (us vs : List ℕ) (k : ℕ) (os rest : List Obligation)
-      → Leaves speaks limit es us os rest → walk speaks limit es (us ++ vs) k os ≡ walk speaks limit es vs (k + length us) rest
+      → LeftToProve speaks limit es us os rest → walk speaks limit es (us ++ vs) k os ≡ walk speaks limit es vs (k + length us) rest
   unfolding walk
   goes-on [] vs k os rest e = let z : k + 0 ≡ k = omega arith in rw (z, e)
   goes-on (u ∷ us) vs k [] rest e = absurd e
@@ -95,7 +95,7 @@ module _ (speaks : ℕ → ℕ → Bool) (limit : ℕ) (es : List Entry) where
 
   -- from p on, with what the words before p leave.
   reaches : (ws : List ℕ) (p : ℕ) (os rest : List Obligation) → p ≤ length ws
-      → Leaves speaks limit es (take p ws) os rest → walk speaks limit es ws 0 os ≡ walkFrom speaks limit es ws p rest
+      → LeftToProve speaks limit es (take p ws) os rest → walk speaks limit es ws 0 os ≡ walkFrom speaks limit es ws p rest
   reaches ws p os rest l e =
       let z : 0 + p ≡ p = omega arith in
       rw (take-append-drop p ws, length-take-le p ws l, z) at (goes-on (take p ws) (drop p ws) 0 os rest e)

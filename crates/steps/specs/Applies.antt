@@ -3,7 +3,7 @@
 -- gives the entry of a number, hs are the hypotheses, and n is the part. It knows nothing of the machine; that a step
 -- opens exactly these premises is `StepOpens` (Steps.antt). Assumes nothing.
 --
--- `speaks` is the one place where principals are compared: 01 has "the same K" (Figure1.antt).
+-- `speaks` compares principals: 01 has "the same K" (Figure1.antt).
 use Prim.Native.Nat.{ℕ, _≤_, _<_}
 use mathlib.Core.Bool.{Bool, true}
 use mathlib.Core.Path.{_≡_}

@@ -15,7 +15,7 @@ use Rattle.table.specs.Samples.{unlikeHeads, unlikeSeconds}
 use Rattle.steps.specs.declared.goal.Goal.{Goal}
 use Rattle.steps.specs.declared.goal.Goal.the-variants.{True, Affirms}
 use Rattle.steps.specs.declared.opened.Opened.{Opened}
-use Rattle.steps.specs.declared.opened.Opened.the-variants.{Closed, One, Two}
+use Rattle.steps.specs.declared.opened.Opened.the-variants.{Refused, Closed, One, Two}
 use Rattle.steps.specs.Obligation.{alone, adding, addingBoth}
 use Rattle.steps.specs.Words.{words}
 use Rattle.steps.specs.Figure1.{step}
@@ -27,15 +27,15 @@ unlike = entries unlikeHeads unlikeSeconds
 
 -- ---- the machine
 
--- a row: a step word, the hypotheses and the goal that it finds, and what it opens
-pub record Row : Type 0 where
+-- a step word, the hypotheses and the goal that it finds, and what it opens
+pub record Sample : Type 0 where
   pub word : ℕ
   pub hypotheses : List ℕ
   pub goal : Goal
   pub opened : Opened
 
-abbrev pub row : ℕ → List ℕ → Goal → Opened → Row
-row word hypotheses goal opened = record { word = word; hypotheses = hypotheses; goal = goal; opened = opened }
+abbrev pub sample : ℕ → List ℕ → Goal → Opened → Sample
+sample word hypotheses goal opened = record { word = word; hypotheses = hypotheses; goal = goal; opened = opened }
 
 -- the truth of a formula, and principal 7's affirmation of it
 abbrev pub isTrue : ℕ → Goal
@@ -44,27 +44,73 @@ isTrue n = True (formula n)
 abbrev pub affirmed : ℕ → Goal
 affirmed n = Affirms (principal 7) (formula n)
 
--- in the order of the codes
-abbrev pub rows : List Row
-rows =
-    row 0 (0 ∷ []) (isTrue 0) Closed
-    ∷ row 4096 [] (affirmed 4) (One (alone (isTrue 4)))
-    ∷ row 8192 [] (isTrue 2) (One (adding (isTrue 1) (formula 0)))
-    ∷ row 12290 (2 ∷ []) (isTrue 5) (Two (alone (isTrue 0)) (adding (isTrue 5) (formula 1)))
-    ∷ row 16385 (1 ∷ []) (isTrue 5) Closed
-    ∷ row 20480 [] (isTrue 3) (Two (alone (isTrue 1)) (alone (isTrue 2)))
-    ∷ row 24579 (3 ∷ []) (isTrue 5) (One (addingBoth (isTrue 5) (formula 1) (formula 2)))
-    ∷ row 28672 [] (isTrue 4) (One (alone (isTrue 2)))
-    ∷ row 32768 [] (isTrue 4) (One (alone (isTrue 0)))
-    ∷ row 36868 (4 ∷ []) (isTrue 5) (Two (adding (isTrue 5) (formula 2)) (adding (isTrue 5) (formula 0)))
-    ∷ row 40960 [] (isTrue 5) (One (alone (affirmed 4)))
-    ∷ row 45061 (5 ∷ []) (affirmed 0) (One (adding (affirmed 0) (formula 4)))
+-- each rule where it applies, in the order of the codes
+abbrev pub taken : List Sample
+taken =
+    sample 0 (0 ∷ []) (isTrue 0) Closed
+    ∷ sample 4096 [] (affirmed 4) (One (alone (isTrue 4)))
+    ∷ sample 8192 [] (isTrue 2) (One (adding (isTrue 1) (formula 0)))
+    ∷ sample 12290 (2 ∷ []) (isTrue 5) (Two (alone (isTrue 0)) (adding (isTrue 5) (formula 1)))
+    ∷ sample 16385 (1 ∷ []) (isTrue 5) Closed
+    ∷ sample 20480 [] (isTrue 3) (Two (alone (isTrue 1)) (alone (isTrue 2)))
+    ∷ sample 24579 (3 ∷ []) (isTrue 5) (One (addingBoth (isTrue 5) (formula 1) (formula 2)))
+    ∷ sample 28672 [] (isTrue 4) (One (alone (isTrue 2)))
+    ∷ sample 32768 [] (isTrue 4) (One (alone (isTrue 0)))
+    ∷ sample 36868 (4 ∷ []) (isTrue 5) (Two (adding (isTrue 5) (formula 2)) (adding (isTrue 5) (formula 0)))
+    ∷ sample 40960 [] (isTrue 5) (One (alone (affirmed 4)))
+    ∷ sample 45061 (5 ∷ []) (affirmed 0) (One (adding (affirmed 0) (formula 4)))
     ∷ []
 
+-- Where it doesn't, in the same order: a part where the rule names nothing, or one that is not held; then, with that put
+-- right, a goal or a named formula that the rule doesn't need; and, of the rules that need a truth, an affirmation.
+abbrev pub refused : List Sample
+refused =
+    sample 0 (1 ∷ []) (isTrue 0) (Refused 12)
+    ∷ sample 4097 (1 ∷ []) (affirmed 4) (Refused 11)
+    ∷ sample 8193 (1 ∷ []) (isTrue 2) (Refused 11)
+    ∷ sample 12290 (1 ∷ []) (isTrue 5) (Refused 12)
+    ∷ sample 16385 (2 ∷ []) (isTrue 5) (Refused 12)
+    ∷ sample 20481 (1 ∷ []) (isTrue 3) (Refused 11)
+    ∷ sample 24579 (4 ∷ []) (isTrue 5) (Refused 12)
+    ∷ sample 28673 (1 ∷ []) (isTrue 4) (Refused 11)
+    ∷ sample 32769 (1 ∷ []) (isTrue 4) (Refused 11)
+    ∷ sample 36868 (3 ∷ []) (isTrue 5) (Refused 12)
+    ∷ sample 40961 (1 ∷ []) (isTrue 5) (Refused 11)
+    ∷ sample 45061 (4 ∷ []) (affirmed 0) (Refused 12)
+    ∷ sample 0 (0 ∷ []) (isTrue 1) (Refused 13)
+    ∷ sample 4096 [] (isTrue 4) (Refused 13)
+    ∷ sample 8192 [] (isTrue 3) (Refused 13)
+    ∷ sample 12291 (3 ∷ []) (isTrue 5) (Refused 13)
+    ∷ sample 16384 (0 ∷ []) (isTrue 5) (Refused 13)
+    ∷ sample 20480 [] (isTrue 4) (Refused 13)
+    ∷ sample 24580 (4 ∷ []) (isTrue 5) (Refused 13)
+    ∷ sample 28672 [] (isTrue 3) (Refused 13)
+    ∷ sample 32768 [] (isTrue 3) (Refused 13)
+    ∷ sample 36867 (3 ∷ []) (isTrue 5) (Refused 13)
+    ∷ sample 40960 [] (isTrue 4) (Refused 13)
+    ∷ sample 45060 (4 ∷ []) (affirmed 0) (Refused 13)
+    ∷ sample 0 (0 ∷ []) (affirmed 0) (Refused 13)
+    ∷ sample 8192 [] (affirmed 2) (Refused 13)
+    ∷ sample 20480 [] (affirmed 3) (Refused 13)
+    ∷ sample 28672 [] (affirmed 4) (Refused 13)
+    ∷ sample 32768 [] (affirmed 4) (Refused 13)
+    ∷ sample 40960 [] (affirmed 5) (Refused 13)
+    ∷ sample 45061 (5 ∷ []) (isTrue 5) (Refused 14)
+    ∷ sample 45061 (5 ∷ []) (Affirms (principal 4) (formula 0)) (Refused 14)
+    ∷ sample 49152 (0 ∷ []) (isTrue 0) (Refused 11)
+    ∷ []
+
+-- the machine opens so
+abbrev pub Hold : List Sample → Type 0
+Hold samples =
+    map (λ r. step unlike (r .word) (record { hypotheses = r .hypotheses; goal = r .goal; depth = 1 })) samples
+    ≡ map (λ r. r .opened) samples
+
 abbrev pub OpensOfEach : Type 0
-OpensOfEach =
-    map (λ r. step unlike (r .word) (record { hypotheses = r .hypotheses; goal = r .goal; depth = 1 })) rows
-    ≡ map (λ r. r .opened) rows
+OpensOfEach = Hold taken
+
+abbrev pub RefusesOfEach : Type 0
+RefusesOfEach = Hold refused
 
 -- ---- derivations
 
@@ -88,24 +134,24 @@ abbrev pub p5 : Proposition
 p5 = 7 says p4
 
 -- these are the words of a derivation of γ from Γ
-pub record Derived (Γ : List Proposition) (γ : Judgment) (ws : List ℕ) : Type 0 where
+pub record HasWords (Γ : List Proposition) (γ : Judgment) (ws : List ℕ) : Type 0 where
   pub derivation : Derivation Γ γ
   pub words-are : words (number unlike) derivation ≡ ws
 
 -- In the order of the codes. A premise's words say which it is: 8192 is implies right, 16385 false left, 32768 0 a
 -- proof of p4 from p0.
 pub record WordsOfEach : Type 0 where
-  pub init : Derived (p0 ∷ []) (truth p0) (0 ∷ [])
-  pub affirm : Derived (p0 ∷ []) (7 affirms p0) (4096 ∷ 0 ∷ [])
-  pub implies-right : Derived [] (truth (p0 implies p4)) (8192 ∷ 32768 ∷ 0 ∷ [])
-  pub implies-left : Derived (p2 ∷ p0 ∷ []) (truth p5) (12290 ∷ 0 ∷ 16385 ∷ [])
-  pub false-left : Derived (p1 ∷ []) (truth p5) (16385 ∷ [])
-  pub and-right : Derived (p1 ∷ []) (truth p3) (20480 ∷ 16385 ∷ 8192 ∷ 16385 ∷ [])
-  pub and-left-first : Derived (p3 ∷ []) (truth p5) (24579 ∷ 16385 ∷ [])
-  pub and-left-second : Derived (p3 ∷ p0 ∷ []) (truth p5) (24579 ∷ 12290 ∷ 0 ∷ 16385 ∷ [])
-  pub or-right-first : Derived (p1 ∷ []) (truth p4) (28672 ∷ 8192 ∷ 16385 ∷ [])
-  pub or-right-second : Derived (p0 ∷ []) (truth p4) (32768 ∷ 0 ∷ [])
-  pub or-left : Derived (p4 ∷ []) (truth p4) (36868 ∷ 28672 ∷ 8192 ∷ 12290 ∷ 0 ∷ 16385 ∷ 32768 ∷ 0 ∷ [])
-  pub says-right : Derived (p0 ∷ []) (truth p5) (40960 ∷ 4096 ∷ 32768 ∷ 0 ∷ [])
+  pub init : HasWords (p0 ∷ []) (truth p0) (0 ∷ [])
+  pub affirm : HasWords (p0 ∷ []) (7 affirms p0) (4096 ∷ 0 ∷ [])
+  pub implies-right : HasWords [] (truth (p0 implies p4)) (8192 ∷ 32768 ∷ 0 ∷ [])
+  pub implies-left : HasWords (p2 ∷ p0 ∷ []) (truth p5) (12290 ∷ 0 ∷ 16385 ∷ [])
+  pub false-left : HasWords (p1 ∷ []) (truth p5) (16385 ∷ [])
+  pub and-right : HasWords (p1 ∷ []) (truth p3) (20480 ∷ 16385 ∷ 8192 ∷ 16385 ∷ [])
+  pub and-left-first : HasWords (p3 ∷ []) (truth p5) (24579 ∷ 16385 ∷ [])
+  pub and-left-second : HasWords (p3 ∷ p0 ∷ []) (truth p5) (24579 ∷ 12290 ∷ 0 ∷ 16385 ∷ [])
+  pub or-right-first : HasWords (p1 ∷ []) (truth p4) (28672 ∷ 8192 ∷ 16385 ∷ [])
+  pub or-right-second : HasWords (p0 ∷ []) (truth p4) (32768 ∷ 0 ∷ [])
+  pub or-left : HasWords (p4 ∷ []) (truth p4) (36868 ∷ 28672 ∷ 8192 ∷ 12290 ∷ 0 ∷ 16385 ∷ 32768 ∷ 0 ∷ [])
+  pub says-right : HasWords (p0 ∷ []) (truth p5) (40960 ∷ 4096 ∷ 32768 ∷ 0 ∷ [])
   pub says-left :
-      Derived (p5 ∷ []) (7 affirms p4) (45061 ∷ 4096 ∷ 36868 ∷ 28672 ∷ 8192 ∷ 12290 ∷ 0 ∷ 16385 ∷ 32768 ∷ 0 ∷ [])
+      HasWords (p5 ∷ []) (7 affirms p4) (45061 ∷ 4096 ∷ 36868 ∷ 28672 ∷ 8192 ∷ 12290 ∷ 0 ∷ 16385 ∷ 32768 ∷ 0 ∷ [])

@@ -17,7 +17,7 @@ use Rattle.table.specs.declared.entry.Entry.the-variants.{Atom, False, Implies,
 use Rattle.table.specs.Tests.{entryAt}
 use Rattle.steps.specs.declared.goal.Goal.{Goal}
 use Rattle.steps.specs.declared.goal.Goal.the-variants.{True, Affirms}
-use Rattle.steps.specs.Obligation.{Obligation, goalFormula}
+use Rattle.steps.specs.Obligation.{Obligation}
 
 -- ---- what 01's table asks of a step: the columns "goal below" and "named hypothesis"
 
@@ -82,7 +82,7 @@ GoalFits es (truth-of kind) (Affirms k f) = ⊥
 GoalFits es affirmation (True f) = ⊥
 GoalFits es affirmation (Affirms k f) = Unit
 
--- the goal is "an affirmation by K", or by one whom K speaks for
+-- the goal is "an affirmation by K", or by one whom K speaks for (`speaks`, as in Applies.antt)
 abbrev pub AffirmedBy : (ℕ → ℕ → Bool) → Principal → Goal → Type 0
 AffirmedBy speaks k (True f) = ⊥
 AffirmedBy speaks k (Affirms l f) = speaks (k .0) (l .0) ≡ true
@@ -114,8 +114,8 @@ module _ (speaks : ℕ → ℕ → Bool) (es : List Entry) (limit depth : ℕ) (
     other-kind :
         {r : Row} {k : Kind} → number ≡ 13 → rowOf code ≡ some r → r .named ≡ some k
         → ¬ (kindOf (entryAt es part) ≡ some k) → StepReason number
-    -- or code 0 names another atom than the goal's."
-    other-atom : number ≡ 13 → code ≡ 0 → ¬ (part ≡ goalFormula goal) → StepReason number
+    -- or code 0 names another atom than the goal's." (5 sees to it that another number is another atom.)
+    other-atom : {f : Formula} → number ≡ 13 → code ≡ 0 → goal ≡ True f → ¬ (part ≡ f .0) → StepReason number
     -- "14. Code 11 names a says-formula of K and the goal isn't an affirmation by K."
     not-served :
         {k : Principal} {a : Formula} → number ≡ 14 → code ≡ 11 → entryAt es part ≡ Says k a

@@ -2,7 +2,7 @@
 -- formula's number, and g the goal. Above each rule stands its row: code, name, goal below, named hypothesis, premises
 -- in order. Assumes nothing.
 --
--- `speaks` is the one place where principals are compared: 01 has "the same K" (Figure1.antt).
+-- `speaks` compares principals: 01 has "the same K" (Figure1.antt).
 use Prim.Native.Nat.{ℕ}
 use mathlib.Core.Bool.{Bool}
 use mathlib.Core.List.{List}

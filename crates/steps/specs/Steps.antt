@@ -33,7 +33,7 @@ module _ (speaks : ℕ → ℕ → Bool) (limit : ℕ) (es : List Entry) where
       (w : ℕ) (o : Obligation) (ps : List Premise)
       → premises (step speaks es limit w o) ≡ some ps ↔ Takes speaks es limit w o ps
 
-  -- and a row applies exactly when no reason does.
+  -- and there are such premises exactly when there is no reason to refuse the step.
   abbrev pub StepTaken : Type 0
   StepTaken =
       (w : ℕ) (o : Obligation)

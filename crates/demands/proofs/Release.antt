@@ -1,9 +1,9 @@
--- Demands 1 and 2 for a call on a record (specs/Demands.antt). In order: a release is what `Releases` of `record` says,
+-- Demands 1 and 2 for a call on a record (specs/Release.antt and Demands.antt). In order: a release is what `Releases` of `record` says,
 -- over propositions; a file is a release or has a first reason; what a call answers and leaves. Assumes nothing.
-use Prim.Native.Nat.{ℕ, _≤_}
+use Prim.Native.Nat.{ℕ}
 use native.Mathlib.Omega.{arith}
 use mathlib.Core.Path.{_≡_, refl, sym, ap, subst, _∙_}
-use mathlib.Core.Logic.{_↔_, Iff·trans, _⊎_, inl, inr}
+use mathlib.Core.Logic.{Iff·trans, _⊎_, inl, inr}
 use mathlib.Core.List.{List, _++_}
 use lib.ListN.{length, drop}
 use Rattle.signers.specs.Each.{AreSigners}
@@ -17,7 +17,7 @@ use Rattle.record.specs.Proof.{Keeps}
 use Rattle.record.specs.Promises.{Releases}
 use Rattle.record.proofs.Granted.{granted-exactly}
 use Rattle.record.proofs.Reasons.{refused-exactly}
-use Rattle.demands.specs.Demands.{Call, Signers, Release, GrantedWithSigners, First, RefusedByFirst}
+use Rattle.demands.specs.Release.{Signers, Release, GrantedWithSigners, First, RefusedUntouched}
 
 -- ---- a release
 
@@ -73,7 +73,8 @@ module _ (file : List ℕ) (room : ℕ) where
 
   pub never-both : (number p : ℕ) → Release file room → ¬ First file room number p
   never-both number p r first =
-      let e : Granted (length (signers file)) ≡ Refused number p = sym (granted-exactly file room _ .1 (releases r)) ∙ refused-exactly file room number p .1 first in
+      let e : Granted (length (signers file)) ≡ Refused number p =
+      sym (granted-exactly file room _ .1 (releases r)) ∙ refused-exactly file room number p .1 first in
       let z : _≡_ {A = ℕ} 0 1 = cc in omega arith
 
   pub one-first : (number p other q : ℕ) → First file room number p → First file room other q → (number ≡ other) × (p ≡ q)
@@ -93,15 +94,17 @@ module _ (file before after : List ℕ) where
     written = l .after-is ∙ ap (λ n. l .names ++ drop n before) (l .counted);
   }
 
-  pub granted : (answer : RecordVerdict) → Call file answer before after → Release file (length before) → GrantedWithSigners file answer before after
-  granted answer call r =
-      let is : Granted (length (signers file)) ≡ answer = sym (call .answer-is ∙ granted-exactly file (length before) _ .1 (releases file (length before) r)) in
-      subst (λ v. ListAfter file v before after → GrantedWithSigners file v before after) is (granted-list (length (signers file)) (r .keeps)) (call .list-after)
+  pub granted : (answer : RecordVerdict) → answer ≡ recordAnswer file (length before) → ListAfter file answer before after
+      → Release file (length before) → GrantedWithSigners file answer before after
+  granted answer e l r =
+      let is : answer ≡ Granted (length (signers file)) = e ∙ granted-exactly file (length before) _ .1 (releases file (length before) r) in
+      subst (λ v. ListAfter file v before after → GrantedWithSigners file v before after) (sym is)
+      (granted-list (length (signers file)) (r .keeps)) l
 
-  refused-of : (answer : RecordVerdict) → answer ≡ recordAnswer file (length before) → ListAfter file answer before after
-      → ¬ Release file (length before) → RefusedByFirst file answer before after
-  refused-of (Granted count) e l none = absurd (none (of-grant file (length before) (sym e)))
-  refused-of (Refused number p) e l none = record {
+  pub refused : (answer : RecordVerdict) → answer ≡ recordAnswer file (length before) → ListAfter file answer before after
+      → ¬ Release file (length before) → RefusedUntouched file answer before after
+  refused (Granted count) e l none = absurd (none (of-grant file (length before) (sym e)))
+  refused (Refused number p) e l none = record {
     number = number;
     place = p;
     first = of-refusal file (length before) (sym e);
@@ -109,8 +112,6 @@ module _ (file before after : List ℕ) where
     untouched = l;
   }
 
-  pub refused : (answer : RecordVerdict) → Call file answer before after → ¬ Release file (length before) → RefusedByFirst file answer before after
-  refused answer call = refused-of answer (call .answer-is) (call .list-after)
-
-  pub nothing-else : (answer : RecordVerdict) → Call file answer before after → (count : ℕ) → answer ≡ Granted count → Release file (length before)
-  nothing-else answer call count e = of-grant file (length before) (sym (call .answer-is) ∙ e)
+  pub nothing-else : (answer : RecordVerdict) → answer ≡ recordAnswer file (length before) → ListAfter file answer before after
+      → (count : ℕ) → answer ≡ Granted count → Release file (length before)
+  nothing-else answer e l count is = of-grant file (length before) (sym e ∙ is)

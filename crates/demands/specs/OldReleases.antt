@@ -1,34 +1,20 @@
 -- "Next we fold the standing orders of our three machine halls into one shorter list of equal force, and the goal of
 -- every old release must then keep a proof, of any size, from it and the same signed papers." (demand 3) For the files
--- themselves: a record that was granted, and an exchange file that is found equal. Each has a table of its own, so what
--- counts is the propositions that their numbers spell. Proved in proofs/Releases.antt. Assumes nothing.
+-- themselves: a release, whatever list was lent for its signers, and an exchange file that is found equal. Each has a table of its own, so what
+-- counts is the propositions that their numbers spell. Proved in proofs/OldReleases.antt. Assumes nothing.
 use Prim.Native.Nat.{ℕ}
 use mathlib.Core.Path.{_≡_}
+use mathlib.Core.Logic.{_↔_}
 use mathlib.Core.List.{List, [], _∷_, _++_}
 use Rattle.basics.specs.Membership.{_∈_, _⊆_}
 use Rattle.logic.specs.Proposition.{Proposition, atom, false, _implies_, _and_, _or_, _says_}
 use Rattle.logic.specs.Misreadings.{SignedBy, Anybody}
 use Rattle.logic.specs.Figure1.{HasProof, EqualInForce}
-use Rattle.table.specs.Spelled.{spell, spellAll}
-use Rattle.record.specs.declared.verdict.RecordVerdict.the-variants.{Granted}
-use Rattle.record.specs.Layout as Record
-use Rattle.record.specs.Answer.{recordAnswer}
+use Rattle.record.specs.Proof.{statedBy, goalOf}
 use Rattle.exchange.specs.declared.verdict.ExchangeVerdict.the-variants.{Equal}
 use Rattle.exchange.specs.Layout.{firstStatements, secondStatements}
 use Rattle.exchange.specs.Answer.{exchangeAnswer}
-
--- what a record states, and its goal
-abbrev pub statedBy : List ℕ → List Proposition
-statedBy file = spellAll (Record.table file) (Record.statements file)
-
-abbrev pub goalOf : List ℕ → Proposition
-goalOf file = spell (Record.table file) (Record.goal file)
-
--- a record that was granted, whatever list was lent for its signers
-pub record Released (file : List ℕ) : Type 0 where
-  pub room : ℕ
-  pub count : ℕ
-  pub granted : recordAnswer file room ≡ Granted count
+use Rattle.demands.specs.Release.{Release}
 
 -- ---- with any papers
 
@@ -37,12 +23,12 @@ pub record Released (file : List ℕ) : Type 0 where
 abbrev pub KeptByForce : Type 0
 KeptByForce =
     (old new papers : List Proposition) → EqualInForce old new
-    → (file : List ℕ) → Released file → statedBy file ⊆ old ++ papers → HasProof (new ++ papers) (goalOf file)
+    → (file : List ℕ) (room : ℕ) → Release file room → statedBy file ⊆ old ++ papers → HasProof (new ++ papers) (goalOf file)
 
 -- So after an exchange, whichever of its lists has the old orders.
 abbrev pub KeptByExchange : Type 0
 KeptByExchange =
-    (exchange : List ℕ) → exchangeAnswer exchange ≡ Equal → (papers : List Proposition) (file : List ℕ) → Released file
+    (exchange : List ℕ) → exchangeAnswer exchange ≡ Equal → (papers : List Proposition) (file : List ℕ) (room : ℕ) → Release file room
     → (statedBy file ⊆ firstStatements exchange ++ papers → HasProof (secondStatements exchange ++ papers) (goalOf file))
     × (statedBy file ⊆ secondStatements exchange ++ papers → HasProof (firstStatements exchange ++ papers) (goalOf file))
 
@@ -61,13 +47,21 @@ abbrev pub papersOf : List Proposition → List Proposition
 papersOf [] = []
 papersOf (A ∷ Γ) = paper A ++ papersOf Γ
 
+-- The papers of a list are its signed statements, and nothing else.
+abbrev pub PapersAre : Type 0
+PapersAre = (Γ : List Proposition) (A : Proposition) → A ∈ papersOf Γ ↔ ((A ∈ Γ) × SignedBy Anybody A)
+
 -- the standing orders among the statements are among these
 abbrev pub OrdersAmong : List Proposition → List Proposition → Type 0
 OrdersAmong statements orders = (A : Proposition) → A ∈ statements → ¬ SignedBy Anybody A → A ∈ orders
 
+-- Record A has a paper only, and so no order that would have to be among any; B's one statement is an order.
+abbrev pub OrdersOfSamples : Type 0
+OrdersOfSamples = OrdersAmong (7 says atom 0 ∷ []) [] × ¬ OrdersAmong (atom 0 ∷ []) []
+
 -- "the goal of every old release .. from it and the same signed papers": the old release's own
 abbrev pub OldReleasesKept : Type 0
 OldReleasesKept =
-    (exchange : List ℕ) → exchangeAnswer exchange ≡ Equal → (file : List ℕ) → Released file
+    (exchange : List ℕ) → exchangeAnswer exchange ≡ Equal → (file : List ℕ) (room : ℕ) → Release file room
     → (OrdersAmong (statedBy file) (firstStatements exchange) → HasProof (secondStatements exchange ++ papersOf (statedBy file)) (goalOf file))
     × (OrdersAmong (statedBy file) (secondStatements exchange) → HasProof (firstStatements exchange ++ papersOf (statedBy file)) (goalOf file))
