@@ -3,3 +3,4 @@ pub mod Joined
 pub mod Members
 pub mod Each
 pub mod Collected
+pub mod Samples

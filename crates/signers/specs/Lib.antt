@@ -1,4 +1,5 @@
--- The signers of statements over a table. Collected is for a private function.
+-- The signers of statements over a table, and samples. Collected is for a private function.
 pub mod Signers
 pub mod Each
 pub mod Collected
+pub mod Samples
