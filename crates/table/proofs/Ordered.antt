@@ -1,20 +1,63 @@
--- What test 4 gives: each entry is well-formed at its number, and its operands' numbers are lower. Assumes nothing.
+-- What test 4 gives: each entry is well-formed at its number, which is that its operands' numbers are lower. Assumes
+-- nothing.
 use Prim.Native.Nat.{ℕ, _<_}
 use mathlib.Core.Bool.{true, not, false≢true}
-use mathlib.Core.Path.{_≡_, sym, ap, subst, _∙_}
-use mathlib.Core.List.{List, [], _∷_, List·Memᴰ·cases-cons, List·Memᴰ·eq-of-singleton, List·Memᴰ·not-nil}
-use mathlib.Core.Logic.{⊎-elim}
+use mathlib.Core.Path.{_≡_, refl, sym, ap, subst, _∙_}
+use mathlib.Core.List.{List, [], _∷_, List·Memᴰ·head, List·Memᴰ·tail}
+use mathlib.Core.List.{List·Memᴰ·cases-cons, List·Memᴰ·eq-of-singleton, List·Memᴰ·not-nil}
+use mathlib.Core.Logic.{_↔_, ⊎-elim}
 use lib.ListN.{length}
-use borrow.Author.Tests.{ltb-true, not-false}
+use borrow.Author.Tests.{not-false}
 use Rattle.basics.specs.Membership.{_∈_}
 use Rattle.basics.specs.Choice.{both}
-use Rattle.basics.proofs.Choice.{both-true}
+use Rattle.basics.proofs.Asked.{less, both-are}
 use Rattle.basics.proofs.First.{no-place}
 use Rattle.table.specs.declared.entry.Formula.{Formula}
 use Rattle.table.specs.declared.entry.Entry.{Entry}
 use Rattle.table.specs.declared.entry.Entry.the-variants.{Atom, False, Implies, And, Or, Says, IllFormed}
 use Rattle.table.specs.Tests.{entryAt, lowerThan, wellFormedAt, wrongEntry}
-use Rattle.table.specs.Laws.{Ordered, NoFaultOrdered, operands, OperandsLower}
+use Rattle.table.specs.Laws.{operands, WellFormedIs, Ordered, NoFaultOrdered}
+
+-- the numbers of these formulas are lower
+abbrev AllLower : ℕ → List Formula → Type 0
+AllLower i fs = (f : Formula) → f ∈ fs → f .0 < i
+
+-- of none, of one, of two
+lower-none : (i : ℕ) → true ≡ true ↔ AllLower i []
+lower-none i = (λ t f m. absurd (List·Memᴰ·not-nil m), λ all. refl)
+
+lower-one : (i : ℕ) (g : Formula) → lowerThan i g ≡ true ↔ AllLower i (g ∷ [])
+lower-one i g =
+    let (to, from) = less (g .0) i in (
+      λ t f m. subst (λ (h : Formula). h .0 < i) (sym (List·Memᴰ·eq-of-singleton m)) (to t),
+      λ all. from (all g (List·Memᴰ·head refl)),
+    )
+
+lower-two : (i : ℕ) (g h : Formula) → both (lowerThan i g) (lowerThan i h) ≡ true ↔ AllLower i (g ∷ h ∷ [])
+lower-two i g h =
+    let (to, from) = both-are (lower-one i g) (lower-one i h) in (
+      λ t f m. ⊎-elim (λ e. to t .0 f (List·Memᴰ·head e)) (to t .1 f) (List·Memᴰ·cases-cons m),
+      λ all. from (λ f m. all f (List·Memᴰ·head (List·Memᴰ·eq-of-singleton m)), λ f m. all f (List·Memᴰ·tail m)),
+    )
+
+-- An entry that is well-formed at a number is not ill-formed.
+not-ill-formed : (i : ℕ) (e : Entry) → wellFormedAt i e ≡ true → ¬ (e ≡ IllFormed)
+not-ill-formed i e t is = false≢true (sym (ap (wellFormedAt i) is) ∙ t)
+
+-- so it is enough to ask for the operands
+formed :
+    (i : ℕ) (e : Entry) → wellFormedAt i e ≡ true ↔ AllLower i (operands e)
+    → wellFormedAt i e ≡ true ↔ ((¬ (e ≡ IllFormed)) × AllLower i (operands e))
+formed i e (to, from) = (λ t. (not-ill-formed i e t, to t), λ h. from (h .1))
+
+pub well-formed-is : WellFormedIs
+well-formed-is i (Atom a) = formed i (Atom a) (lower-none i)
+well-formed-is i False = formed i False (lower-none i)
+well-formed-is i (Implies g h) = formed i (Implies g h) (lower-two i g h)
+well-formed-is i (And g h) = formed i (And g h) (lower-two i g h)
+well-formed-is i (Or g h) = formed i (Or g h) (lower-two i g h)
+well-formed-is i (Says k g) = formed i (Says k g) (lower-one i g)
+well-formed-is i IllFormed = (λ t. absurd (false≢true t), λ h. absurd (h .0 refl))
 
 pub no-fault-ordered : NoFaultOrdered
 unfolding wrongEntry
@@ -22,28 +65,10 @@ no-fault-ordered es =
     let (none, all) = no-place (λ i. not (wellFormedAt i (entryAt es i))) (length es) in
     (λ e i l. not-false (wellFormedAt i (entryAt es i)) (none e i l), λ ordered. all (λ i l. ap not (ordered i l)))
 
--- An entry that is well-formed at its number is not ill-formed.
+-- So an entry of a table where 4 finds no fault is not ill-formed, and its operands' numbers are lower.
 pub well-formed : (es : List Entry) → Ordered es → (i : ℕ) → i < length es → ¬ (entryAt es i ≡ IllFormed)
-well-formed es ordered i l e = false≢true (sym (ap (wellFormedAt i) e) ∙ ordered i l)
+well-formed es ordered i l = well-formed-is i (entryAt es i) .0 (ordered i l) .0
 
--- one operand's number is lower, and each of two is
-lower-one : (i : ℕ) (f g : Formula) → lowerThan i g ≡ true → f ≡ g → f .0 < i
-lower-one i f g t e = subst (λ (h : Formula). h .0 < i) (sym e) (ltb-true (g .0) i t)
-
-lower-two : (i : ℕ) (f g h : Formula) → both (lowerThan i g) (lowerThan i h) ≡ true → f ∈ g ∷ h ∷ [] → f .0 < i
-lower-two i f g h t m =
-    let (p, q) = both-true _ _ .0 t in
-    ⊎-elim (lower-one i f g p) (λ n. lower-one i f h q (List·Memᴰ·eq-of-singleton n)) (List·Memᴰ·cases-cons m)
-
--- where an entry is well-formed at its number
-operand-below : (i : ℕ) (e : Entry) → wellFormedAt i e ≡ true → (f : Formula) → f ∈ operands e → f .0 < i
-operand-below i (Atom a) t f m = absurd (List·Memᴰ·not-nil m)
-operand-below i False t f m = absurd (List·Memᴰ·not-nil m)
-operand-below i (Implies g h) t f m = lower-two i f g h t m
-operand-below i (And g h) t f m = lower-two i f g h t m
-operand-below i (Or g h) t f m = lower-two i f g h t m
-operand-below i (Says k g) t f m = lower-one i f g t (List·Memᴰ·eq-of-singleton m)
-operand-below i IllFormed t f m = absurd (List·Memᴰ·not-nil m)
-
-pub operands-lower : OperandsLower
-operands-lower es ordered i l = operand-below i (entryAt es i) (ordered i l)
+pub operands-lower :
+    (es : List Entry) → Ordered es → (i : ℕ) → i < length es → (f : Formula) → f ∈ operands (entryAt es i) → f .0 < i
+operands-lower es ordered i l = well-formed-is i (entryAt es i) .0 (ordered i l) .1

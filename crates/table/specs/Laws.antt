@@ -39,14 +39,7 @@ WordsOfEntry =
     (head second : ℕ) → ¬ (entry head second ≡ IllFormed)
     → (headOf (entry head second) ≡ head) × (secondOf (entry head second) ≡ second) × FirstFits (entry head second)
 
--- 4 finds no fault exactly when each entry is well-formed at its number.
-abbrev pub Ordered : List Entry → Type 0
-Ordered es = (i : ℕ) → i < length es → wellFormedAt i (entryAt es i) ≡ true
-
-abbrev pub NoFaultOrdered : Type 0
-NoFaultOrdered = (es : List Entry) → wrongEntry es ≡ Nowhere ↔ Ordered es
-
--- An operand's number is lower.
+-- the formulas that an entry uses
 abbrev pub operands : Entry → List Formula
 operands (Atom a) = []
 operands False = []
@@ -56,8 +49,18 @@ operands (Or f g) = f ∷ g ∷ []
 operands (Says k f) = f ∷ []
 operands IllFormed = []
 
-abbrev pub OperandsLower : Type 0
-OperandsLower = (es : List Entry) → Ordered es → (i : ℕ) → i < length es → (f : Formula) → f ∈ operands (entryAt es i) → f .0 < i
+-- An entry is well-formed at a number exactly when it is not ill-formed and its operands' numbers are lower: "An
+-- operand that is a formula has a lower number than the entry that uses it." (01)
+abbrev pub WellFormedIs : Type 0
+WellFormedIs =
+    (i : ℕ) (e : Entry) → wellFormedAt i e ≡ true ↔ ((¬ (e ≡ IllFormed)) × ((f : Formula) → f ∈ operands e → f .0 < i))
+
+-- 4 finds no fault exactly when each entry is well-formed at its number.
+abbrev pub Ordered : List Entry → Type 0
+Ordered es = (i : ℕ) → i < length es → wellFormedAt i (entryAt es i) ≡ true
+
+abbrev pub NoFaultOrdered : Type 0
+NoFaultOrdered = (es : List Entry) → wrongEntry es ≡ Nowhere ↔ Ordered es
 
 -- Each entry's proposition is its kind applied to the propositions of its operands, and what is no entry spells false.
 abbrev pub MadeOfOperands : Type 0
