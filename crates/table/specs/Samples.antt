@@ -24,10 +24,19 @@ pub record Sample : Type 0 where
 abbrev pub sample : List ℕ → List ℕ → Tested → Sample
 sample heads seconds answer = record { heads = heads; seconds = seconds; answer = answer }
 
+-- Each kind once, with operands that differ in number and in kind, so that no two can change places: as heads and
+-- seconds.
+abbrev pub unlikeHeads : List ℕ
+unlikeHeads = 9 ∷ 4096 ∷ 8192 ∷ 12289 ∷ 16386 ∷ 20487 ∷ []
+
+abbrev pub unlikeSeconds : List ℕ
+unlikeSeconds = 0 ∷ 0 ∷ 1 ∷ 2 ∷ 0 ∷ 4 ∷ []
+
 -- In order: table T; M, "a table of entries 0 and 0"; N, "first entry 20487 with second 0"; the table of K; each kind
 -- once; no entry; arrays of unlike length; kind 6; an atom with a second; false with a first operand; an operand that
 -- is the entry's own number; a second of 65,535; a repeated entry at 2 and a wrong one at 3, 4 before 5; and the first
--- of two repeated entries.
+-- of two repeated entries. Then tables without a fault: each kind once with unlike operands, as above; and one head
+-- with two seconds, which is no repetition, where 2 is 0 implies 0 and the first operand of 4 has the higher number.
 abbrev pub table : List Sample
 table =
     sample (0 ∷ 20487 ∷ 20488 ∷ []) (0 ∷ 0 ∷ 0 ∷ []) Passed
@@ -44,6 +53,8 @@ table =
     ∷ sample (0 ∷ 8192 ∷ []) (0 ∷ 65535 ∷ []) (Refused 4 1)
     ∷ sample (0 ∷ 1 ∷ 0 ∷ 8195 ∷ []) (0 ∷ 0 ∷ 0 ∷ 0 ∷ []) (Refused 4 3)
     ∷ sample (0 ∷ 1 ∷ 1 ∷ 0 ∷ []) (0 ∷ 0 ∷ 0 ∷ 0 ∷ []) (Refused 5 2)
+    ∷ sample unlikeHeads unlikeSeconds Passed
+    ∷ sample (0 ∷ 1 ∷ 8192 ∷ 8192 ∷ 8193 ∷ []) (0 ∷ 0 ∷ 0 ∷ 1 ∷ 0 ∷ []) Passed
     ∷ []
 
 abbrev pub Samples : Type 0
@@ -59,15 +70,7 @@ SpelledOut =
     spelled (entries (0 ∷ 20487 ∷ 20488 ∷ 4096 ∷ 8193 ∷ []) (0 ∷ 0 ∷ 0 ∷ 0 ∷ 3 ∷ []))
     ≡ P.atom 0 ∷ 7 says P.atom 0 ∷ 8 says P.atom 0 ∷ P.false ∷ (7 says P.atom 0) implies P.false ∷ []
 
--- Each kind once, with operands that differ in number and in kind, so that no two can change places: as heads and
--- seconds,
-abbrev pub unlikeHeads : List ℕ
-unlikeHeads = 9 ∷ 4096 ∷ 8192 ∷ 12289 ∷ 16386 ∷ 20487 ∷ []
-
-abbrev pub unlikeSeconds : List ℕ
-unlikeSeconds = 0 ∷ 0 ∷ 1 ∷ 2 ∷ 0 ∷ 4 ∷ []
-
--- as entries,
+-- Each kind once, as entries,
 abbrev pub EachKind : Type 0
 EachKind =
     entries unlikeHeads unlikeSeconds
