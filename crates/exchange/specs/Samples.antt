@@ -110,3 +110,19 @@ depths = three 510 510 510 Equal ∷ three 510 511 510 (Refused 10 1025) ∷ thr
 
 abbrev pub Depths : Type 0
 Depths = Hold depths
+
+-- Files given as bytes, "low byte first" (01), and not by their words: K, and its first 1 and 7 bytes, too few.
+abbrev pub bytesOfK : List ℕ
+bytesOfK =
+    3 ∷ 0 ∷ 1 ∷ 0 ∷ 2 ∷ 0 ∷ 7 ∷ 0
+    ∷ 0 ∷ 0 ∷ 1 ∷ 0 ∷ 0 ∷ 48
+    ∷ 0 ∷ 0 ∷ 0 ∷ 0 ∷ 1 ∷ 0
+    ∷ 2 ∷ 0
+    ∷ 0 ∷ 0 ∷ 1 ∷ 0
+    ∷ 2 ∷ 96 ∷ 0 ∷ 0 ∷ 2 ∷ 96 ∷ 1 ∷ 0 ∷ 0 ∷ 80 ∷ 0 ∷ 0 ∷ 1 ∷ 0
+    ∷ []
+
+abbrev pub Bytes : Type 0
+Bytes =
+    map exchangeAnswer (bytesOfK ∷ (3 ∷ []) ∷ (3 ∷ 0 ∷ 1 ∷ 0 ∷ 2 ∷ 0 ∷ 7 ∷ []) ∷ [])
+    ≡ Equal ∷ Refused 1 0 ∷ Refused 1 0 ∷ []

@@ -10,12 +10,19 @@ use Rattle.steps.specs.Step.{opens, step}
 use Rattle.steps.specs.Run.{walk, run}
 use Rattle.signers.specs.Signers.{joinedAll, signers}
 use Rattle.record.specs.Answer.{recordAnswer}
-use Rattle.record.specs.Samples.{Samples, Order}
+use Rattle.record.specs.Samples.{Samples, Order, Bytes}
 
 pub samples : Samples
-unfolding recordAnswer fileWords fileOf firstRefusal wrongEntry repeatedEntry first joinedAll signers run walk step opens holds entries entry
+unfolding recordAnswer fileWords fileOf firstRefusal wrongEntry repeatedEntry first joinedAll signers
+    run walk step opens holds entries entry
 samples = (refl, refl)
 
 pub order : Order
-unfolding recordAnswer fileWords fileOf firstRefusal wrongEntry repeatedEntry first joinedAll signers run walk step opens holds entries entry
+unfolding recordAnswer fileWords fileOf firstRefusal wrongEntry repeatedEntry first joinedAll signers
+    run walk step opens holds entries entry
 order = (refl, refl)
+
+pub bytes : Bytes
+unfolding recordAnswer fileWords firstRefusal wrongEntry repeatedEntry first joinedAll signers
+    run walk step opens holds entries entry
+bytes = refl

@@ -91,3 +91,19 @@ order =
 
 abbrev pub Order : Type 0
 Order = Hold order
+
+-- The same of files given as bytes, "low byte first" (01), and not by their words: record A, and its first 1 and 7
+-- bytes, too few.
+abbrev pub bytesOfA : List ℕ
+bytesOfA =
+    2 ∷ 0 ∷ 1 ∷ 0 ∷ 4 ∷ 0 ∷ 1 ∷ 0
+    ∷ 0 ∷ 0 ∷ 7 ∷ 80
+    ∷ 0 ∷ 0 ∷ 0 ∷ 0
+    ∷ 1 ∷ 0
+    ∷ 0 ∷ 160 ∷ 1 ∷ 176 ∷ 0 ∷ 16 ∷ 0 ∷ 0
+    ∷ []
+
+abbrev pub Bytes : Type 0
+Bytes =
+    map (λ file. recordAnswer file 256) (bytesOfA ∷ (2 ∷ []) ∷ (2 ∷ 0 ∷ 1 ∷ 0 ∷ 4 ∷ 0 ∷ 1 ∷ []) ∷ [])
+    ≡ Granted 1 ∷ Refused 1 0 ∷ Refused 1 0 ∷ []
