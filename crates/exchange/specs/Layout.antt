@@ -8,9 +8,7 @@ use Rattle.basics.specs.Limits.{mostFormulas, mostStatements, mostSteps}
 use Rattle.file.specs.Words.{wordAt, part}
 use Rattle.file.specs.Layout as Any
 use Rattle.file.specs.Layout.{Layout, range, partOf}
-use Rattle.logic.specs.Proposition.{Proposition}
 use Rattle.table.specs.declared.entry.Entry.{Entry}
-use Rattle.table.specs.Spelled.{spellAll}
 use Rattle.table.specs.Tests.{entries}
 
 -- F, S1, S2 and N; the parts have F, F, S1, S2 and N words
@@ -68,12 +66,6 @@ pub record LayoutIs (file : List ℕ) : Type 0 where
   pub most-is : mostBytes ≡ 50184
   pub least-is : Any.leastBytes exchangeLayout ≡ 8
 
--- the table taken apart, and what the two lists spell out by it
+-- the table taken apart
 abbrev pub table : List ℕ → List Entry
 table file = entries (heads file) (seconds file)
-
-abbrev pub firstStatements : List ℕ → List Proposition
-firstStatements file = spellAll (table file) (firstList file)
-
-abbrev pub secondStatements : List ℕ → List Proposition
-secondStatements file = spellAll (table file) (secondList file)

@@ -7,21 +7,22 @@ use mathlib.Core.List.{List}
 use lib.ListN.{length, take}
 use Rattle.basics.specs.Limits.{mostSteps}
 use Rattle.basics.specs.Order.{FirstReason, checkingOrder}
-use Rattle.logic.specs.Figure1.{EqualInForce}
 use Rattle.exchange.specs.declared.verdict.ExchangeVerdict.{ExchangeVerdict}
 use Rattle.exchange.specs.declared.verdict.ExchangeVerdict.the-variants.{Equal, Refused}
-use Rattle.exchange.specs.Layout.{firstCount, secondCount, stepCount, mostBytes, firstStatements, secondStatements}
+use Rattle.exchange.specs.Layout.{firstCount, secondCount, stepCount, firstList, secondList, mostBytes, table}
 use Rattle.exchange.specs.Answer.{exchangeAnswer}
 use Rattle.exchange.specs.Proofs.{Keeps, CarriesAll}
+use Rattle.exchange.specs.Force.{EqualInForce}
 use Rattle.exchange.specs.Reasons.{Reason}
 
 -- "The exchange check says equal exactly for the exchange files within the limits that carry all these proofs,
 abbrev pub EqualExactly : Type 0
 EqualExactly = (file : List ℕ) → exchangeAnswer file ≡ Equal ↔ (Keeps file × CarriesAll file)
 
--- and so only for lists equal in force." (demand 3)
+-- and so only for lists equal in force." (demand 3) The same lists of numbers as `CarriesAll` has.
 abbrev pub EqualOnlyInForce : Type 0
-EqualOnlyInForce = (file : List ℕ) → exchangeAnswer file ≡ Equal → EqualInForce (firstStatements file) (secondStatements file)
+EqualOnlyInForce =
+    (file : List ℕ) → exchangeAnswer file ≡ Equal → EqualInForce (table file) (firstList file) (secondList file)
 
 -- Every other file, of any bytes and length, is refused by the first reason in the checking order that applies, with
 -- its place.

@@ -103,7 +103,8 @@ abbrev pub deep : ℕ → List ℕ
 deep n = replicate n 24577 ++ 20480 ∷ 0 ∷ 0 ∷ []
 
 abbrev pub three : ℕ → ℕ → ℕ → ExchangeVerdict → Sample
-three k m n answer = row (exchangeOf (0 ∷ 12288 ∷ []) (0 ∷ 0 ∷ []) (1 ∷ []) (1 ∷ 1 ∷ []) (deep k ++ deep m ++ deep n)) answer
+three k m n answer =
+    row (exchangeOf (0 ∷ 12288 ∷ []) (0 ∷ 0 ∷ []) (1 ∷ []) (1 ∷ 1 ∷ []) (deep k ++ deep m ++ deep n)) answer
 
 abbrev pub depths : List Sample
 depths = three 510 510 510 Equal ∷ three 510 511 510 (Refused 10 1025) ∷ three 510 510 511 (Refused 10 1538) ∷ []
