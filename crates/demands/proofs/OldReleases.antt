@@ -9,9 +9,9 @@ use Rattle.logic.specs.Proposition.{Proposition, atom, false, _implies_, _and_,
 use Rattle.logic.specs.Misreadings.{SignedBy, Anybody}
 use Rattle.logic.proofs.Figure1.{figure1}
 use Rattle.record.specs.Proof.{statedBy, goalOf}
-use Rattle.exchange.specs.Layout.{firstStatements, secondStatements}
+use Rattle.exchange.specs.Layout.{firstList, secondList}
 use Rattle.exchange.proofs.Equal.{equal-only-in-force}
-use Rattle.demands.specs.OldReleases.{KeptByForce, KeptByExchange, paper, papersOf, PapersAre, OrdersAmong, OrdersOfSamples, OldReleasesKept}
+use Rattle.demands.specs.OldReleases.{spelledIn, KeptByForce, KeptByExchange, paper, papersOf, PapersAre, OrdersAmong, OrdersOfSamples, OldReleasesKept}
 
 pub kept-by-force : KeptByForce
 kept-by-force old new papers force file room release among =
@@ -20,8 +20,8 @@ kept-by-force old new papers force file room release among =
 pub kept-by-exchange : KeptByExchange
 kept-by-exchange exchange equal papers file room release =
     let force = equal-only-in-force exchange equal in (
-      kept-by-force (firstStatements exchange) (secondStatements exchange) papers force file room release,
-      kept-by-force (secondStatements exchange) (firstStatements exchange) papers (λ A. Iff·symm (force A)) file room release,
+      kept-by-force (spelledIn exchange (firstList exchange)) (spelledIn exchange (secondList exchange)) papers force file room release,
+      kept-by-force (spelledIn exchange (secondList exchange)) (spelledIn exchange (firstList exchange)) papers (λ A. Iff·symm (force A)) file room release,
     )
 
 -- A statement is a signed paper, or a standing order.
@@ -48,8 +48,8 @@ pub old-releases-kept : OldReleasesKept
 old-releases-kept exchange equal file room release =
     let stated = statedBy file in
     let (forth, back) = kept-by-exchange exchange equal (papersOf stated) file room release in (
-      λ among. forth (orders-and-papers stated (firstStatements exchange) among),
-      λ among. back (orders-and-papers stated (secondStatements exchange) among),
+      λ among. forth (orders-and-papers stated (spelledIn exchange (firstList exchange)) among),
+      λ among. back (orders-and-papers stated (spelledIn exchange (secondList exchange)) among),
     )
 
 -- ---- papers and orders

@@ -10,13 +10,18 @@ use Rattle.basics.specs.Membership.{_∈_, _⊆_}
 use Rattle.logic.specs.Proposition.{Proposition, atom, false, _implies_, _and_, _or_, _says_}
 use Rattle.logic.specs.Misreadings.{SignedBy, Anybody}
 use Rattle.logic.specs.Figure1.{HasProof, EqualInForce}
+use Rattle.table.specs.Spelled.{spellAll}
 use Rattle.record.specs.Proof.{statedBy, goalOf}
 use Rattle.exchange.specs.declared.verdict.ExchangeVerdict.the-variants.{Equal}
-use Rattle.exchange.specs.Layout.{firstStatements, secondStatements}
+use Rattle.exchange.specs.Layout.{table, firstList, secondList}
 use Rattle.exchange.specs.Answer.{exchangeAnswer}
 use Rattle.demands.specs.Release.{Release}
 
 -- ---- with any papers
+
+-- what these numbers spell in an exchange file's table
+abbrev pub spelledIn : List ℕ → List ℕ → List Proposition
+spelledIn exchange numbers = spellAll (table exchange) numbers
 
 -- For lists equal in force: whatever was released from old orders and papers has a proof from the new orders and the
 -- same papers.
@@ -28,9 +33,12 @@ KeptByForce =
 -- So after an exchange, whichever of its lists has the old orders.
 abbrev pub KeptByExchange : Type 0
 KeptByExchange =
-    (exchange : List ℕ) → exchangeAnswer exchange ≡ Equal → (papers : List Proposition) (file : List ℕ) (room : ℕ) → Release file room
-    → (statedBy file ⊆ firstStatements exchange ++ papers → HasProof (secondStatements exchange ++ papers) (goalOf file))
-    × (statedBy file ⊆ secondStatements exchange ++ papers → HasProof (firstStatements exchange ++ papers) (goalOf file))
+    (exchange : List ℕ) → exchangeAnswer exchange ≡ Equal → (papers : List Proposition)
+    → (file : List ℕ) (room : ℕ) → Release file room
+    → (statedBy file ⊆ spelledIn exchange (firstList exchange) ++ papers
+    → HasProof (spelledIn exchange (secondList exchange) ++ papers) (goalOf file))
+    × (statedBy file ⊆ spelledIn exchange (secondList exchange) ++ papers
+    → HasProof (spelledIn exchange (firstList exchange) ++ papers) (goalOf file))
 
 -- ---- with the record's own papers
 
@@ -63,5 +71,7 @@ OrdersOfSamples = OrdersAmong (7 says atom 0 ∷ []) [] × ¬ OrdersAmong (atom 
 abbrev pub OldReleasesKept : Type 0
 OldReleasesKept =
     (exchange : List ℕ) → exchangeAnswer exchange ≡ Equal → (file : List ℕ) (room : ℕ) → Release file room
-    → (OrdersAmong (statedBy file) (firstStatements exchange) → HasProof (secondStatements exchange ++ papersOf (statedBy file)) (goalOf file))
-    × (OrdersAmong (statedBy file) (secondStatements exchange) → HasProof (firstStatements exchange ++ papersOf (statedBy file)) (goalOf file))
+    → (OrdersAmong (statedBy file) (spelledIn exchange (firstList exchange))
+    → HasProof (spelledIn exchange (secondList exchange) ++ papersOf (statedBy file)) (goalOf file))
+    × (OrdersAmong (statedBy file) (spelledIn exchange (secondList exchange))
+    → HasProof (spelledIn exchange (firstList exchange) ++ papersOf (statedBy file)) (goalOf file))
