@@ -1,5 +1,6 @@
 -- Old releases keep their goals (specs/OldReleases.antt): a release has a derivation, and equal says that the lists are
 -- equal in force. Assumes nothing.
+use Prim.Native.Nat.{ℕ}
 use mathlib.Core.Path.{_≡_, refl, sym, subst}
 use mathlib.Core.Logic.{Iff·symm, _⊎_, inl, inr, ⊎-elim}
 use mathlib.Core.List.{List, [], _∷_, _++_, List·Memᴰ·head, List·Memᴰ·tail, List·Memᴰ·cases-cons, List·Memᴰ·not-nil, List·Memᴰ·append-cases}
@@ -7,15 +8,21 @@ use Rattle.basics.specs.Membership.{_∈_, _⊆_}
 use Rattle.basics.proofs.Membership.{⊆-left, ⊆-right}
 use Rattle.logic.specs.Proposition.{Proposition, atom, false, _implies_, _and_, _or_, _says_}
 use Rattle.logic.specs.Misreadings.{SignedBy, Anybody}
+use Rattle.logic.specs.Figure1.{HasProof}
 use Rattle.logic.proofs.Figure1.{figure1}
 use Rattle.record.specs.Proof.{statedBy, goalOf}
 use Rattle.exchange.specs.Layout.{firstList, secondList}
 use Rattle.exchange.proofs.Equal.{equal-only-in-force}
+use Rattle.demands.specs.Release.{Release}
 use Rattle.demands.specs.OldReleases.{spelledIn, KeptByForce, KeptByExchange, paper, papersOf, PapersAre, OrdersAmong, OrdersOfSamples, OldReleasesKept}
+
+-- A release has a proof of its goal from its statements.
+proved : (file : List ℕ) (room : ℕ) → Release file room → HasProof (statedBy file) (goalOf file)
+proved file room release = release .is-proof .derivation
 
 pub kept-by-force : KeptByForce
 kept-by-force old new papers force file room release among =
-    figure1 .any-release-kept old new papers (statedBy file) (goalOf file) force among (release .is-proof .derivation)
+    figure1 .any-release-kept old new papers (statedBy file) (goalOf file) force among (proved file room release)
 
 pub kept-by-exchange : KeptByExchange
 kept-by-exchange exchange equal papers file room release =

@@ -1,8 +1,8 @@
 -- The three demands, sentence by sentence, as one promise. Proved in proofs/Demands.antt. Assumes nothing.
 --
 -- The entry points are `check_record` and `check_exchange`; `record_line` and `exchange_line` of `report`, which write
--- a check's line; and `wethrynda_check_record` and `wethrynda_check_exchange` of `ffi`, which give C a check's answer as
--- one number (no two answers have the same: `CodeTells`, `ExchangeCodeTells`). "No entry point leaves a test to its
+-- a check's line; and `wethrynda_check_record` and `wethrynda_check_exchange` of `ffi`, which give C a check's answer
+-- as one number (no two answers have the same: `CodeTells`, `ExchangeCodeTells`). "No entry point leaves a test to its
 -- caller": no `pub fn` has a `requires`, and the gate looks; what follows is for every file and every list. All other
 -- public functions are parts: they answer for every input, and make only their own tests.
 use Prim.Native.Nat.{ℕ, _≤_}
@@ -38,9 +38,9 @@ FirstOfExchange file number p = FirstReason checkingOrder (Reasons.Reason file) 
 
 -- ---- the demands
 
--- A call on a record has an answer, and the lent list before and after it; the two hypotheses about them, wherever they
--- stand here, are the two clauses of the contract of `check_record`. The one about an exchange's answer is the clause of
--- the contract of `check_exchange`.
+-- A call on a record has an answer, and the lent list before and after it; the two hypotheses about them, wherever
+-- they stand here, are the two clauses of the contract of `check_record`. The one about an exchange's answer is the
+-- clause of the contract of `check_exchange`.
 pub record Demands : Type 0 where
   -- "1. A record that keeps the layout and its limits, whose words are a proof of its goal and whose signers fit the
   -- list lent for them, is granted with its signers."

@@ -1,7 +1,8 @@
 -- "Next we fold the standing orders of our three machine halls into one shorter list of equal force, and the goal of
 -- every old release must then keep a proof, of any size, from it and the same signed papers." (demand 3) For the files
--- themselves: a release, whatever list was lent for its signers, and an exchange file that is found equal. Each has a table of its own, so what
--- counts is the propositions that their numbers spell. Proved in proofs/OldReleases.antt. Assumes nothing.
+-- themselves: a release, whatever list was lent for its signers, and an exchange file that is found equal. Each has a
+-- table of its own, so what counts is the propositions that their numbers spell. Proved in proofs/OldReleases.antt.
+-- Assumes nothing.
 use Prim.Native.Nat.{ℕ}
 use mathlib.Core.Path.{_≡_}
 use mathlib.Core.Logic.{_↔_}
@@ -28,7 +29,8 @@ spelledIn exchange numbers = spellAll (table exchange) numbers
 abbrev pub KeptByForce : Type 0
 KeptByForce =
     (old new papers : List Proposition) → EqualInForce old new
-    → (file : List ℕ) (room : ℕ) → Release file room → statedBy file ⊆ old ++ papers → HasProof (new ++ papers) (goalOf file)
+    → (file : List ℕ) (room : ℕ)
+    → Release file room → statedBy file ⊆ old ++ papers → HasProof (new ++ papers) (goalOf file)
 
 -- So after an exchange, whichever of its lists has the old orders.
 abbrev pub KeptByExchange : Type 0

@@ -14,7 +14,7 @@ use Rattle.record.specs.Layout.{table, statements}
 use Rattle.record.specs.Proof.{Keeps, IsProof}
 use Rattle.record.specs.Reasons.{Reason}
 
--- Its signers: those K who say something in what the statements spell, each once. FREE: their order, and nothing else.
+-- A record's signers: those K who say something in what its statements spell, each once. FREE: their order.
 pub record Signers (file names : List ℕ) : Type 0 where
   pub each : (K : ℕ) → K ∈ names ↔ SaysSome (table file) (statements file) K
   pub once : EachOnce names

@@ -61,8 +61,9 @@ taken =
     ∷ sample 45061 (5 ∷ []) (affirmed 0) (One (adding (affirmed 0) (formula 4)))
     ∷ []
 
--- Where it doesn't, in the same order: a part where the rule names nothing, or one that is not held; then, with that put
--- right, a goal or a named formula that the rule doesn't need; and, of the rules that need a truth, an affirmation.
+-- Where it doesn't, in the same order: a part where the rule names nothing, or one that is not held; then, with that
+-- put right, a goal or a named formula of another kind than the rule needs; then, of the rules that need a truth, an
+-- affirmation; code 11 on a truth, and on an affirmation by another; and a code that is no rule.
 abbrev pub refused : List Sample
 refused =
     sample 0 (1 ∷ []) (isTrue 0) (Refused 12)

@@ -28,7 +28,8 @@ module _ (speaks : ℕ → ℕ → Bool) (limit : ℕ) (es : List Entry) where
   pub data Stop (ws : List ℕ) (os : List Obligation) (number p : ℕ) : Type 0 where
     -- "9. The steps end while a premise is open or a whole proof is still due (place N)."
     ended :
-        (o : Obligation) (rest : List Obligation) → number ≡ 9 → p ≡ length ws → LeftToProve ws os (o ∷ rest) → Stop ws os number p
+        (o : Obligation) (rest : List Obligation) → number ≡ 9 → p ≡ length ws → LeftToProve ws os (o ∷ rest)
+        → Stop ws os number p
     -- 10 to 14: the words before p leave o to prove next, and this is the first reason to refuse the word at p there
     refused :
         (o : Obligation) (rest : List Obligation) → p < length ws → LeftToProve (take p ws) os (o ∷ rest)
