@@ -19,7 +19,8 @@ stated statements goal steps =
 
 -- | statements | goal | steps | line |, by the code that a row is about:
 -- 0; 1 and 10; 2, and with A for B;
--- 3, and with the premises in the other order, where B isn't added yet; 4;
+-- 3, and with the premises in the other order, where B isn't added yet; 3 on an affirmation, and with the first premise
+-- as one; 4;
 -- 5, and in the other order; 6, where both are needed, and what is neither of them isn't added;
 -- 7, and of the second operand; 8, and of the first;
 -- 9, and in the other order; 11, and on the truth of the says-formula itself.
@@ -31,6 +32,8 @@ rules =
     ∷ a-record (stated [] 6 (8192 ∷ 0 ∷ [])) prints "refused 13 place 1\n"
     ∷ a-record (stated (2 ∷ 0 ∷ []) 1 (12290 ∷ 0 ∷ 16385 ∷ [])) prints "granted 0\n"
     ∷ a-record (stated (2 ∷ 0 ∷ []) 1 (12290 ∷ 16385 ∷ 0 ∷ [])) prints "refused 12 place 1\n"
+    ∷ a-record (stated (2 ∷ 0 ∷ []) 5 (40960 ∷ 12290 ∷ 0 ∷ 16385 ∷ [])) prints "granted 0\n"
+    ∷ a-record (stated (2 ∷ 0 ∷ []) 5 (40960 ∷ 12290 ∷ 4096 ∷ 0 ∷ 16385 ∷ [])) prints "refused 13 place 2\n"
     ∷ a-record (stated (1 ∷ []) 0 (16385 ∷ [])) prints "granted 0\n"
     ∷ a-record (stated (1 ∷ []) 3 (20480 ∷ 16385 ∷ 8192 ∷ 16385 ∷ [])) prints "granted 0\n"
     ∷ a-record (stated (1 ∷ []) 3 (20480 ∷ 8192 ∷ 16385 ∷ 16385 ∷ [])) prints "refused 13 place 1\n"

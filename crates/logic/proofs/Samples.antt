@@ -2,9 +2,9 @@
 use native.Mathlib.Omega.{arith}
 use mathlib.Core.Path.{refl}
 use Rattle.basics.proofs.Membership.{first, second}
-use Rattle.logic.specs.Derivation.{init, affirm, and-right, and-left, says-right, says-left}
+use Rattle.logic.specs.Derivation.{init, affirm, implies-left, and-right, and-left, says-right, says-left}
 use Rattle.logic.specs.Figure1.{Same}
-use Rattle.logic.specs.Samples.{SampleA, SampleB, SampleC, SampleD, SampleF, SampleK, FirstPremiseFirst}
+use Rattle.logic.specs.Samples.{FirstPremiseIsTruth, SampleA, SampleB, SampleC, SampleD, SampleF, SampleK, FirstPremiseFirst}
 use Rattle.logic.specs.Misreadings.{Anybody, OtherThan}
 use Rattle.logic.proofs.FromSigned.{none-signed, one-signed, from-signed}
 use Rattle.logic.proofs.Force.{each-nil, each-cons}
@@ -35,3 +35,6 @@ sample-k =
 
 pub first-premise-first : FirstPremiseFirst
 first-premise-first = (and-right (says-right (affirm (init first))) (init first), refl)
+
+pub first-premise-is-truth : FirstPremiseIsTruth
+first-premise-is-truth = (implies-left first (init second) (affirm (init first)), refl)

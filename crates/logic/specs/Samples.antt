@@ -2,9 +2,10 @@
 -- all. As files they come with the checks. Proved in proofs/Samples.antt. Assumes nothing.
 use mathlib.Core.Path.{_≡_}
 use mathlib.Core.List.{[], _∷_}
-use Rattle.logic.specs.Proposition.{atom, _and_, _says_}
+use Rattle.logic.specs.Proposition.{atom, _implies_, _and_, _says_}
+use Rattle.logic.specs.Judgment.{_affirms_}
 use Rattle.logic.specs.Depth.{stepDepths}
-use Rattle.logic.specs.Figure1.{HasProof, EqualInForce}
+use Rattle.logic.specs.Figure1.{Derivation, HasProof, EqualInForce}
 
 -- A, and the depths of its four steps: says right, says left, affirm, init
 abbrev pub SampleA : Type 0
@@ -25,6 +26,11 @@ SampleF = ¬ HasProof [] (atom 0)
 
 abbrev pub SampleK : Type 0
 SampleK = EqualInForce (atom 0 and atom 1 ∷ []) (atom 0 ∷ atom 1 ∷ [])
+
+-- No sample of 01: implies left on an affirmation, whose first premise is a truth. Implies left; init; affirm, init.
+abbrev pub FirstPremiseIsTruth : Type 0
+FirstPremiseIsTruth =
+    (D : Derivation (atom 0 implies atom 1 ∷ atom 0 ∷ []) (7 affirms atom 1)) × (stepDepths 1 D ≡ 1 ∷ 2 ∷ 2 ∷ 3 ∷ [])
 
 -- No sample of 01: a step with two premises, the first of them deeper. And right; says right, affirm, init; init.
 abbrev pub FirstPremiseFirst : Type 0

@@ -37,7 +37,7 @@ abbrev pub IsHeld : List Entry → List ℕ → ℕ → Row → Type 0
 IsHeld es hs n r = (k : Kind.Kind) → r .named ≡ some k → Named es hs n
 
 pub record Fits (es : List Entry) (c n : ℕ) (g : Goal) (r : Row) : Type 0 where
-  pub goal-fits : ¬ (c ≡ 11) → GoalFits es (r .below) g
+  pub goal-fits : GoalFits es (r .below) g
   pub kind-fits : (k : Kind.Kind) → r .named ≡ some k → kindOf (entryAt es n) ≡ some k
   pub atom-fits : c ≡ 0 → (f : Formula) → g ≡ True f → n ≡ f .0
 
@@ -68,7 +68,7 @@ module _ {speaks : ℕ → ℕ → Bool} {es : List Entry} {limit depth : ℕ} {
   in-range m (needless-part e is none′ part) = (omega arith, omega arith)
   in-range m (not-held e is kind free) = (omega arith, omega arith)
   in-range m (outside e is kind high) = (omega arith, omega arith)
-  in-range m (other-goal e is not-11 other) = (omega arith, omega arith)
+  in-range m (other-goal e is other) = (omega arith, omega arith)
   in-range m (other-kind e is kind other) = (omega arith, omega arith)
   in-range m (other-atom e is truth other) = (omega arith, omega arith)
   in-range m (not-served e is says unserved) = (omega arith, omega arith)
@@ -94,9 +94,9 @@ module _ {speaks : ℕ → ℕ → Bool} {es : List Entry} {limit depth : ℕ} {
     lowest-past (not-held e is kind free) = unless 12 e (λ l. free (past .twelve l _ (names-it (omega arith) is kind) .is-held))
     lowest-past (outside e is kind high) =
         unless 12 e (λ l. let i = past .twelve l _ (names-it (omega arith) is kind) .in-table in omega arith)
-    lowest-past (other-goal e is not-11 other) =
+    lowest-past (other-goal e is other) =
         unless 13 e
-        (λ l. other (subst (λ r. GoalFits es (r .below) g) (one-row c (past .eleven (omega arith) .0) is) (past .thirteen l .goal-fits not-11)))
+        (λ l. other (subst (λ r. GoalFits es (r .below) g) (one-row c (past .eleven (omega arith) .0) is) (past .thirteen l .goal-fits)))
     lowest-past (other-kind e is kind other) = unless 13 e (λ l. other (past .thirteen l .kind-fits _ (names-it (omega arith) is kind)))
     lowest-past (other-atom e is truth other) = unless 13 e (λ l. other (past .thirteen l .atom-fits is _ truth))
     lowest-past (not-served e is says unserved) = unless 14 e (λ l. unserved (past .fourteen l is _ _ says))

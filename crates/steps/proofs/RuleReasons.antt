@@ -48,9 +48,9 @@ module _ {speaks : ℕ → ℕ → Bool} {es : List Entry} {limit depth : ℕ} {
     pub needless : (n : ℕ) (g : Goal) → ¬ (n ≡ 0) → Least speaks es limit depth hs c n g 11
     needless n g part = record { applies = needless-part refl is refl part; lowest = lowest-past {r = Kind.row b none} (past-10 shallow) }
 
-    pub plain-goal : ¬ (c ≡ 11) → (g : Goal) → ¬ GoalFits es b g → Least speaks es limit depth hs c 0 g 13
-    plain-goal not-11 g other = record {
-      applies = other-goal refl is not-11 other;
+    pub plain-goal : (g : Goal) → ¬ GoalFits es b g → Least speaks es limit depth hs c 0 g 13
+    plain-goal g other = record {
+      applies = other-goal refl is other;
       lowest = lowest-past (past-12 shallow (is, λ e. refl) (λ k e. absurd (Option·none-ne-some k e)));
     }
 
@@ -70,8 +70,8 @@ module _ {speaks : ℕ → ℕ → Bool} {es : List Entry} {limit depth : ℕ} {
       pub named-kind : (g : Goal) → ¬ (kindOf (entryAt es n) ≡ some k) → Least speaks es limit depth hs c n g 13
       named-kind g other = record { applies = other-kind refl is refl other; lowest = lowest-past (past-12 shallow (ruled c is n) (λ k e. h)) }
 
-      pub named-goal : ¬ (c ≡ 11) → (g : Goal) → ¬ GoalFits es b g → Least speaks es limit depth hs c n g 13
-      named-goal not-11 g other = record { applies = other-goal refl is not-11 other; lowest = lowest-past (past-12 shallow (ruled c is n) (λ k e. h)) }
+      pub named-goal : (g : Goal) → ¬ GoalFits es b g → Least speaks es limit depth hs c n g 13
+      named-goal g other = record { applies = other-goal refl is other; lowest = lowest-past (past-12 shallow (ruled c is n) (λ k e. h)) }
 
   -- init names another atom than the goal's
   pub wrong-atom : {n : ℕ} → Named es hs n → (f : Formula) → ¬ (n ≡ f .0) → Least speaks es limit depth hs 0 n (True f) 13
@@ -88,7 +88,7 @@ module _ {speaks : ℕ → ℕ → Bool} {es : List Entry} {limit depth : ℕ} {
     lowest =
         lowest-past
         (past-13 shallow (ruled 11 refl n) (λ j i. h)
-        record { goal-fits = λ no-11. absurd (no-11 refl); kind-fits = λ j i. ap kindOf e ∙ i; atom-fits = λ z. absurd (omega arith) });
+        record { goal-fits = tt; kind-fits = λ j i. ap kindOf e ∙ i; atom-fits = λ z. absurd (omega arith) });
   }
 
   -- ---- where a rule applies, there is no reason
@@ -97,19 +97,19 @@ module _ {speaks : ℕ → ℕ → Bool} {es : List Entry} {limit depth : ℕ} {
     plain-past : (b : Kind.Below) → rowOf c ≡ some (Kind.row b none) → ¬ (c ≡ 0) → GoalFits es b g → Past speaks es limit depth hs 15 c 0 g (Kind.row b none)
     plain-past b is not-0 fits =
         past-14 shallow (is, λ e. refl) (λ k e. absurd (Option·none-ne-some k e))
-        record { goal-fits = λ e. fits; kind-fits = λ k e. absurd (Option·none-ne-some k e); atom-fits = λ e. absurd (not-0 e) }
+        record { goal-fits = fits; kind-fits = λ k e. absurd (Option·none-ne-some k e); atom-fits = λ e. absurd (not-0 e) }
         (λ e. absurd (not-11 e))
 
     named-past : (b : Kind.Below) (k : Kind.Kind) → rowOf c ≡ some (Kind.row b (some k)) → {n : ℕ} → Named es hs n
         → GoalFits es b g → kindOf (entryAt es n) ≡ some k → (c ≡ 0 → (f : Formula) → g ≡ True f → n ≡ f .0) → Past speaks es limit depth hs 15 c n g (Kind.row b (some k))
     named-past b k is {n} h fits kind atom =
-        past-14 shallow (ruled c is n) (λ j e. h) record { goal-fits = λ e. fits; kind-fits = λ j e. kind ∙ e; atom-fits = atom } (λ e. absurd (not-11 e))
+        past-14 shallow (ruled c is n) (λ j e. h) record { goal-fits = fits; kind-fits = λ j e. kind ∙ e; atom-fits = atom } (λ e. absurd (not-11 e))
 
   served-past : {n : ℕ} {k l : Principal} {a c : Formula} → Named es hs n → entryAt es n ≡ Says k a → speaks (k .0) (l .0) ≡ true
-      → Past speaks es limit depth hs 15 11 n (Affirms l c) (Kind.row Kind.affirmation (some Kind.says))
+      → Past speaks es limit depth hs 15 11 n (Affirms l c) (Kind.row Kind.any (some Kind.says))
   served-past {n} h e t =
       past-14 shallow (ruled 11 refl n) (λ j i. h)
-      record { goal-fits = λ not-11. tt; kind-fits = λ j i. ap kindOf e ∙ i; atom-fits = λ z. absurd (omega arith) }
+      record { goal-fits = tt; kind-fits = λ j i. ap kindOf e ∙ i; atom-fits = λ z. absurd (omega arith) }
       (λ z k′ a′ e′. rw (same-says (sym e ∙ e′)) at t)
 
   -- no reason, by a row that has passed all tests

@@ -87,28 +87,28 @@ module _ (speaks : ℕ → ℕ → Bool) (es : List Entry) {limit depth : ℕ} (
   each : Each Opens (rules speaks es)
   each =
       named 0 _ _ refl _
-      (λ n h. truth-cases _ _ _ (λ f. atom-cases _ _ (entryAt es (f .0)) _ (same-atom n h f) (named-goal shallow 0 _ _ refl n h (λ e. omega arith) (True f)))
-      (λ k f. named-goal shallow 0 _ _ refl n h (λ e. omega arith) (Affirms k f) (λ u. u)))
-      then unnamed 1 _ refl _ (affirmation-cases _ _ _ (λ k a. affirm) (λ f. plain-goal shallow 1 _ refl (λ e. omega arith) (True f) (λ u. u)))
+      (λ n h. truth-cases _ _ _ (λ f. atom-cases _ _ (entryAt es (f .0)) _ (same-atom n h f) (named-goal shallow 0 _ _ refl n h (True f)))
+      (λ k f. named-goal shallow 0 _ _ refl n h (Affirms k f) (λ u. u)))
+      then unnamed 1 _ refl _ (affirmation-cases _ _ _ (λ k a. affirm) (λ f. plain-goal shallow 1 _ refl (True f) (λ u. u)))
       then unnamed 2 _ refl _
-      (truth-cases _ _ _ (λ f. implies-cases _ _ (entryAt es (f .0)) _ (λ a b. implies-right) (plain-goal shallow 2 _ refl (λ e. omega arith) (True f)))
-      (λ k f. plain-goal shallow 2 _ refl (λ e. omega arith) (Affirms k f) (λ u. u)))
+      (truth-cases _ _ _ (λ f. implies-cases _ _ (entryAt es (f .0)) _ (λ a b. implies-right) (plain-goal shallow 2 _ refl (True f)))
+      (λ k f. plain-goal shallow 2 _ refl (Affirms k f) (λ u. u)))
       then named 3 _ _ refl _ (λ n h g. implies-cases _ _ (entryAt es n) _ (λ a b. implies-left h) (named-kind shallow 3 _ _ refl n h g))
       then named 4 _ _ refl _ (λ n h g. false-cases _ _ (entryAt es n) _ (false-left h) (named-kind shallow 4 _ _ refl n h g))
       then unnamed 5 _ refl _
-      (truth-cases _ _ _ (λ f. and-cases _ _ (entryAt es (f .0)) _ (λ a b. and-right) (plain-goal shallow 5 _ refl (λ e. omega arith) (True f)))
-      (λ k f. plain-goal shallow 5 _ refl (λ e. omega arith) (Affirms k f) (λ u. u)))
+      (truth-cases _ _ _ (λ f. and-cases _ _ (entryAt es (f .0)) _ (λ a b. and-right) (plain-goal shallow 5 _ refl (True f)))
+      (λ k f. plain-goal shallow 5 _ refl (Affirms k f) (λ u. u)))
       then named 6 _ _ refl _ (λ n h g. and-cases _ _ (entryAt es n) _ (λ a b. and-left h) (named-kind shallow 6 _ _ refl n h g))
       then unnamed 7 _ refl _
-      (truth-cases _ _ _ (λ f. or-cases _ _ (entryAt es (f .0)) _ (λ a b. or-right-first) (plain-goal shallow 7 _ refl (λ e. omega arith) (True f)))
-      (λ k f. plain-goal shallow 7 _ refl (λ e. omega arith) (Affirms k f) (λ u. u)))
+      (truth-cases _ _ _ (λ f. or-cases _ _ (entryAt es (f .0)) _ (λ a b. or-right-first) (plain-goal shallow 7 _ refl (True f)))
+      (λ k f. plain-goal shallow 7 _ refl (Affirms k f) (λ u. u)))
       then unnamed 8 _ refl _
-      (truth-cases _ _ _ (λ f. or-cases _ _ (entryAt es (f .0)) _ (λ a b. or-right-second) (plain-goal shallow 8 _ refl (λ e. omega arith) (True f)))
-      (λ k f. plain-goal shallow 8 _ refl (λ e. omega arith) (Affirms k f) (λ u. u)))
+      (truth-cases _ _ _ (λ f. or-cases _ _ (entryAt es (f .0)) _ (λ a b. or-right-second) (plain-goal shallow 8 _ refl (True f)))
+      (λ k f. plain-goal shallow 8 _ refl (Affirms k f) (λ u. u)))
       then named 9 _ _ refl _ (λ n h g. or-cases _ _ (entryAt es n) _ (λ a b. or-left h) (named-kind shallow 9 _ _ refl n h g))
       then unnamed 10 _ refl _
-      (truth-cases _ _ _ (λ f. says-cases _ _ (entryAt es (f .0)) _ (λ k a. says-right) (plain-goal shallow 10 _ refl (λ e. omega arith) (True f)))
-      (λ k f. plain-goal shallow 10 _ refl (λ e. omega arith) (Affirms k f) (λ u. u)))
+      (truth-cases _ _ _ (λ f. says-cases _ _ (entryAt es (f .0)) _ (λ k a. says-right) (plain-goal shallow 10 _ refl (True f)))
+      (λ k f. plain-goal shallow 10 _ refl (Affirms k f) (λ u. u)))
       then named 11 _ _ refl _ (λ n h g. says-cases _ _ (entryAt es n) _ (same-principal n h g) (named-kind shallow 11 _ _ refl n h g))
       then tt
 

@@ -44,7 +44,8 @@ isTrue n = True (formula n)
 abbrev pub affirmed : ℕ → Goal
 affirmed n = Affirms (principal 7) (formula n)
 
--- each rule where it applies, in the order of the codes
+-- Each rule where it applies, in the order of the codes; and implies left on an affirmation, whose first premise "is
+-- always a truth".
 abbrev pub taken : List Sample
 taken =
     sample 0 (0 ∷ []) (isTrue 0) Closed
@@ -59,6 +60,7 @@ taken =
     ∷ sample 36868 (4 ∷ []) (isTrue 5) (Two (adding (isTrue 5) (formula 2)) (adding (isTrue 5) (formula 0)))
     ∷ sample 40960 [] (isTrue 5) (One (alone (affirmed 4)))
     ∷ sample 45061 (5 ∷ []) (affirmed 0) (One (adding (affirmed 0) (formula 4)))
+    ∷ sample 12290 (2 ∷ []) (affirmed 5) (Two (alone (isTrue 0)) (adding (affirmed 5) (formula 1)))
     ∷ []
 
 -- Where it doesn't, in the same order: a part where the rule names nothing, or one that is not held; then, with that

@@ -46,6 +46,6 @@ added Nothing = []
 added (One f) = f .0 ∷ []
 added (Two f g) = f .0 ∷ g .0 ∷ []
 
--- A premise of o. Nothing is taken away: "a formula named by a left rule remains a hypothesis in every premise".
+-- What a premise of o asks to prove. Nothing is taken away: "a formula named by a left rule remains a hypothesis in every premise".
 abbrev pub under : Obligation → Premise → Obligation
 under o p = record { hypotheses = o .hypotheses ++ added (p .added); goal = p .goal; depth = suc (o .depth) }

@@ -53,7 +53,7 @@ abbrev pub row : Below → Option Kind → Row
 row b k = record { below = b; named = k }
 
 -- In the order of the codes: init, affirm, implies right, implies left, false left, and right, and left, or right
--- first, or right second, or left, says right, says left.
+-- first, or right second, or left, says right, says left ("code 11's goal excepted": it is 14's to test).
 abbrev pub rows : List Row
 rows =
     row (truth-of atom) (some atom)
@@ -67,7 +67,7 @@ rows =
     ∷ row (truth-of or) none
     ∷ row any (some or)
     ∷ row (truth-of says) none
-    ∷ row affirmation (some says)
+    ∷ row any (some says)
     ∷ []
 
 -- the row of a code; a code of 12 or more has none
@@ -108,8 +108,7 @@ module _ (speaks : ℕ → ℕ → Bool) (es : List Entry) (limit depth : ℕ) (
         → StepReason number
     -- "13. The goal isn't what the rule needs (code 11's goal excepted),
     other-goal :
-        {r : Row} → number ≡ 13 → rowOf code ≡ some r → ¬ (code ≡ 11) → ¬ GoalFits es (r .below) goal
-        → StepReason number
+        {r : Row} → number ≡ 13 → rowOf code ≡ some r → ¬ GoalFits es (r .below) goal → StepReason number
     -- the named formula isn't of the kind the rule needs,
     other-kind :
         {r : Row} {k : Kind} → number ≡ 13 → rowOf code ≡ some r → r .named ≡ some k

@@ -37,7 +37,8 @@ Hold es rows = map (λ r. run es (r .steps) (r .obligations)) rows ≡ map (λ r
 abbrev pub T : List Entry
 T = entries (0 ∷ 20487 ∷ 20488 ∷ []) (0 ∷ 0 ∷ 0 ∷ [])
 
--- | | statements | goal | steps | answer |, A to J. (01's record A has entries 0 and 1 only.)
+-- | | statements | goal | steps | answer |, A to J; and H with one word more left over. (01's record A has entries 0
+-- and 1 only.)
 abbrev pub table : List Sample
 table =
     sample (1 ∷ []) 1 (40960 ∷ 45057 ∷ 4096 ∷ 0 ∷ []) (Closed 4)
@@ -50,6 +51,7 @@ table =
     ∷ sample (0 ∷ []) 1 (40960 ∷ 4096 ∷ 0 ∷ 0 ∷ []) (Refused 15 3)
     ∷ sample (0 ∷ []) 0 (49152 ∷ []) (Refused 11 0)
     ∷ sample (1 ∷ 1 ∷ []) 1 (40960 ∷ 45057 ∷ 4096 ∷ 0 ∷ []) (Closed 4)
+    ∷ sample (0 ∷ []) 1 (40960 ∷ 4096 ∷ 0 ∷ 0 ∷ 0 ∷ []) (Refused 15 3)
     ∷ []
 
 abbrev pub Samples : Type 0
