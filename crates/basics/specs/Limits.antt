@@ -1,6 +1,6 @@
 -- The limits of 01, "The record" ("F formulas (1 to 4,096), S statements (0 to 256), N steps (1 to 16,384)", "depth is
 -- at most 512", "Atoms and principals are numbered 0 to 4,095").
--- They stand here once, and once in src/limits.rt. Proved in proofs/LimitsAre.antt. Assumes nothing.
+-- They stand here, and in src/limits.rt. Proved in proofs/LimitsAre.antt. Assumes nothing.
 use Prim.Native.Nat.{ℕ, _+_, _*_}
 use mathlib.Core.Path.{_≡_}
 

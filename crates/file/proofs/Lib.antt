@@ -6,3 +6,4 @@ pub mod LayoutTests
 pub mod LayoutLaws
 pub mod Reasons
 pub mod Outside
+pub mod Samples

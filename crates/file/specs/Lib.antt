@@ -3,3 +3,4 @@ pub mod Words
 pub mod Layout
 pub mod Reasons
 pub mod Outside
+pub mod Samples

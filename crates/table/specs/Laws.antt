@@ -33,7 +33,7 @@ FirstFits IllFormed = ⊥
 abbrev pub EntryOfWords : Type 0
 EntryOfWords = (e : Entry) → FirstFits e → entry (headOf e) (secondOf e) ≡ e
 
--- and words that aren't ill-formed are those of the entry that they are taken apart into.
+-- and an entry that isn't ill-formed has the words that it was taken from.
 abbrev pub WordsOfEntry : Type 0
 WordsOfEntry =
     (head second : ℕ) → ¬ (entry head second ≡ IllFormed)

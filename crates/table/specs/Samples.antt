@@ -33,7 +33,7 @@ abbrev pub unlikeSeconds : List ℕ
 unlikeSeconds = 0 ∷ 0 ∷ 1 ∷ 2 ∷ 0 ∷ 4 ∷ []
 
 -- In order: table T; M, "a table of entries 0 and 0"; N, "first entry 20487 with second 0"; the table of K; each kind
--- once; no entry; arrays of unlike length; kind 6; an atom with a second; false with a first operand; an operand that
+-- once; no entry; arrays of unlike length; kind 6, twice; an atom with a second; false with a first operand; an operand that
 -- is the entry's own number; a second of 65,535; a repeated entry at 2 and a wrong one at 3, 4 before 5; and the first
 -- of two repeated entries. Then tables without a fault: each kind once with unlike operands, as above; and one head
 -- with two seconds, which is no repetition, where 2 is 0 implies 0 and the first operand of 4 has the higher number.
@@ -46,7 +46,7 @@ table =
     ∷ sample (0 ∷ 4096 ∷ 8192 ∷ 12288 ∷ 16384 ∷ 20480 ∷ []) (0 ∷ 0 ∷ 1 ∷ 1 ∷ 1 ∷ 1 ∷ []) Passed
     ∷ sample [] [] (Refused 2 0)
     ∷ sample (0 ∷ 1 ∷ []) (0 ∷ []) (Refused 2 0)
-    ∷ sample (0 ∷ 24576 ∷ []) (0 ∷ 0 ∷ []) (Refused 4 1)
+    ∷ sample (0 ∷ 24576 ∷ 24577 ∷ []) (0 ∷ 0 ∷ 0 ∷ []) (Refused 4 1)
     ∷ sample (0 ∷ []) (1 ∷ []) (Refused 4 0)
     ∷ sample (4097 ∷ []) (0 ∷ []) (Refused 4 0)
     ∷ sample (0 ∷ 8193 ∷ []) (0 ∷ 0 ∷ []) (Refused 4 1)
