@@ -54,7 +54,7 @@ pub record Demands : Type 0 where
       (file before after : List ℕ) (answer : RecordVerdict)
       → answer ≡ recordAnswer file (length before) → ListAfter file answer before after
       → ¬ Release file (length before) → RefusedUntouched file answer before after
-  -- That is: whatever the list's length, a file is a release or has a first reason, never both, and one first reason.
+  -- That is: whatever the list's length, a file is a release or has a first reason, never both, and never two first reasons.
   pub either : (file : List ℕ) (room : ℕ) → Release file room ⊎ ((number : ℕ) × (p : ℕ) × First file room number p)
   pub never-both : (file : List ℕ) (room number p : ℕ) → Release file room → ¬ First file room number p
   pub one-first :
@@ -67,14 +67,15 @@ pub record Demands : Type 0 where
       (file before after : List ℕ) (answer : RecordVerdict)
       → answer ≡ recordAnswer file (length before) → ListAfter file answer before after
       → (count : ℕ) → answer ≡ Granted count → Release file (length before)
-  -- The line that `record_line` writes where there is room is that of such a call, with 256 words lent.
+  -- What `record_line` writes, where there is room for the longest line, is the line of such a call with 256 words lent.
   pub printed :
       (file line : List ℕ) (count : ℕ) (after : List ℕ) → Printed file line count after → mostLine ≤ length line
       → (answer : RecordVerdict) × (list : List ℕ)
       × (answer ≡ recordAnswer file (length lent)) × ListAfter file answer lent list
       × (after ≡ recordLine answer list ++ drop count line)
   -- "3. Any two lists of statements over one table, of whatever length, are equal in force exactly when each statement
-  -- of either list has a proof, of any size, from the other."
+  -- of either list has a proof, of any size, from the other. Equal in force means that every formula, in the table or
+  -- not, with a proof of any size from one list has a proof of any size from the other." (`EqualInForce` is that.)
   pub force-by-statements : Force.ForceByStatements
   -- "The exchange check says equal exactly for the exchange files within the limits that carry all these proofs,
   pub equal-exactly :
@@ -93,7 +94,7 @@ pub record Demands : Type 0 where
   pub exchange-never-both :
       (file : List ℕ) (number p : ℕ) → Proofs.Keeps file × Proofs.CarriesAll file → ¬ FirstOfExchange file number p
   pub never-six-or-eight : NeverSixOrEight
-  -- The line that `exchange_line` writes where there is room is that of the answer.
+  -- What `exchange_line` writes, where there is room for the longest line, is the line of the answer.
   pub exchange-printed : WholeExchangeLine
   -- ".. and the goal of every old release must then keep a proof, of any size, from it and the same signed papers":
   -- over one table, for lists equal in force, after an exchange, and with the old release's own papers

@@ -65,7 +65,7 @@ PapersAre = (Γ : List Proposition) (A : Proposition) → A ∈ papersOf Γ ↔ 
 abbrev pub OrdersAmong : List Proposition → List Proposition → Type 0
 OrdersAmong statements orders = (A : Proposition) → A ∈ statements → ¬ SignedBy Anybody A → A ∈ orders
 
--- Record A has a paper only, and so no order that would have to be among any; B's one statement is an order.
+-- A has only a paper, so it asks for no order; B's statement is an order.
 abbrev pub OrdersOfSamples : Type 0
 OrdersOfSamples = OrdersAmong (7 says atom 0 ∷ []) [] × ¬ OrdersAmong (atom 0 ∷ []) []
 

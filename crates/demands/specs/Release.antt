@@ -1,20 +1,22 @@
 -- What demand 1 says of a record and a lent list: a release, a grant with its signers, a refusal by the first reason.
--- Assumes nothing.
+-- The two samples are proved in proofs/ReleaseSamples.antt. Assumes nothing.
 use Prim.Native.Nat.{ℕ, _≤_}
 use mathlib.Core.Path.{_≡_}
 use mathlib.Core.Logic.{_↔_}
-use mathlib.Core.List.{List, _++_}
+use mathlib.Core.List.{List, [], _∷_, _++_}
 use lib.ListN.{length, drop}
 use Rattle.basics.specs.Membership.{_∈_}
 use Rattle.basics.specs.Order.{FirstReason, checkingOrder}
+use Rattle.file.specs.Words.{fileOf}
 use Rattle.signers.specs.Each.{SaysSome, EachOnce}
 use Rattle.record.specs.declared.verdict.RecordVerdict.{RecordVerdict}
 use Rattle.record.specs.declared.verdict.RecordVerdict.the-variants.{Granted, Refused}
 use Rattle.record.specs.Layout.{table, statements}
 use Rattle.record.specs.Proof.{Keeps, IsProof}
 use Rattle.record.specs.Reasons.{Reason}
+use Rattle.record.specs.Samples.{overT, bytesOfA}
 
--- A record's signers: those K who say something in what its statements spell, each once. FREE: their order.
+-- The signers of a record: those K of whom a statement spells K says A, each once. FREE: their order.
 pub record Signers (file names : List ℕ) : Type 0 where
   pub each : (K : ℕ) → K ∈ names ↔ SaysSome (table file) (statements file) K
   pub once : EachOnce names
@@ -46,3 +48,15 @@ pub record RefusedUntouched (file : List ℕ) (answer : RecordVerdict) (before a
   pub first : First file (length before) number place
   pub refused : answer ≡ Refused number place
   pub untouched : after ≡ before
+
+-- Record A is granted with signer 7, who stands first in the list, once, and nothing else changes.
+abbrev pub GrantOfA : Type 0
+GrantOfA =
+    (answer : RecordVerdict) (before after : List ℕ) → GrantedWithSigners bytesOfA answer before after
+    → (answer ≡ Granted 1) × (after ≡ 7 ∷ drop 1 before)
+
+-- Sample C is refused 14 at 0, and a list of one word is as it was.
+abbrev pub RefusalOfC : Type 0
+RefusalOfC =
+    (answer : RecordVerdict) (after : List ℕ) → RefusedUntouched (fileOf (overT (1 ∷ []) 0 (45057 ∷ []))) answer (9 ∷ []) after
+    → (answer ≡ Refused 14 0) × (after ≡ 9 ∷ [])

@@ -1,6 +1,6 @@
 -- "The samples marked m form one table, proved as a whole" (01): A to H, and K. A row has the words of a file and the
--- line that its program prints, a record's with 256 words lent. Proved in proofs/Samples.antt, by computation. Assumes
--- nothing.
+-- line of its answer, a record's with 256 words lent and with its signers (A has one, so that no order is free). Proved
+-- in proofs/Samples.antt, by computation. Assumes nothing.
 use Prim.Native.Nat.{ℕ}
 use Prim.Native.String.{String}
 use mathlib.Core.Path.{_≡_}
