@@ -1,5 +1,6 @@
--- Demands 1 and 2 for a call on a record (specs/Release.antt and Demands.antt). In order: a release is what `Releases` of `record` says,
--- over propositions; a file is a release or has a first reason; what a call answers and leaves. Assumes nothing.
+-- Demands 1 and 2 for a call on a record (specs/Release.antt and Demands.antt). In order: a release is what `GrantSays`
+-- of `record` says, over propositions; a file is a release or has a first reason; what a call answers and leaves.
+-- Assumes nothing.
 use Prim.Native.Nat.{ℕ}
 use native.Mathlib.Omega.{arith}
 use mathlib.Core.Path.{_≡_, refl, sym, ap, subst, _∙_}
@@ -14,7 +15,7 @@ use Rattle.record.specs.Layout.{table, statements, signers}
 use Rattle.record.specs.Answer.{recordAnswer}
 use Rattle.record.specs.ListAfter.{ListAfter}
 use Rattle.record.specs.Proof.{Keeps}
-use Rattle.record.specs.Promises.{Releases}
+use Rattle.record.specs.Promises.{GrantSays}
 use Rattle.record.proofs.Granted.{granted-exactly}
 use Rattle.record.proofs.Reasons.{refused-exactly}
 use Rattle.demands.specs.Release.{Signers, Release, GrantedWithSigners, First, RefusedUntouched}
@@ -36,7 +37,7 @@ module _ {file : List ℕ} (keeps : Keeps file) {names : List ℕ} where
   }
 
 module _ (file : List ℕ) (room : ℕ) where
-  release : {count : ℕ} → Releases file room count → Release file room
+  release : {count : ℕ} → GrantSays file room count → Release file room
   release r = record {
     keeps = r .keeps;
     is-proof = r .is-proof;
@@ -45,7 +46,7 @@ module _ (file : List ℕ) (room : ℕ) where
     fits = r .fits;
   }
 
-  releases : Release file room → Releases file room (length (signers file))
+  releases : Release file room → GrantSays file room (length (signers file))
   releases r = record {
     keeps = r .keeps;
     is-proof = r .is-proof;
@@ -112,6 +113,6 @@ module _ (file before after : List ℕ) where
     untouched = l;
   }
 
-  pub nothing-else : (answer : RecordVerdict) → answer ≡ recordAnswer file (length before) → ListAfter file answer before after
-      → (count : ℕ) → answer ≡ Granted count → Release file (length before)
-  nothing-else answer e l count is = of-grant file (length before) (sym e ∙ is)
+pub nothing-else : (file : List ℕ) (room count : ℕ) (answer : RecordVerdict)
+    → answer ≡ recordAnswer file room → answer ≡ Granted count → Release file room
+nothing-else file room count answer e is = of-grant file room (sym e ∙ is)

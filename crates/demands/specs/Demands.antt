@@ -64,9 +64,8 @@ pub record Demands : Type 0 where
   -- long enough for the signers, the checker grants every such proof and nothing else." (`IsProof` has the derivation;
   -- every one is granted by the first field.)
   pub nothing-else :
-      (file before after : List ℕ) (answer : RecordVerdict)
-      → answer ≡ recordAnswer file (length before) → ListAfter file answer before after
-      → (count : ℕ) → answer ≡ Granted count → Release file (length before)
+      (file : List ℕ) (room count : ℕ) (answer : RecordVerdict)
+      → answer ≡ recordAnswer file room → answer ≡ Granted count → Release file room
   -- What `record_line` writes, where there is room for the longest line, is the line of such a call with 256 words lent.
   pub printed :
       (file line : List ℕ) (count : ℕ) (after : List ℕ) → Printed file line count after → mostLine ≤ length line

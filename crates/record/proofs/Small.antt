@@ -19,14 +19,14 @@ use Rattle.record.specs.Layout.{recordLayout, heads, seconds, statements
 use Rattle.record.specs.Answer.{recordAnswer}
 use Rattle.record.specs.Proof.{InRange}
 use Rattle.record.specs.Reasons.{Reason, layout-broken, table-broken, goal-outside, statement-outside, list-short, stops}
-use Rattle.record.specs.Promises.{Releases, Small, AnswersSmall}
+use Rattle.record.specs.Promises.{GrantSays, Small, AnswersSmall}
 use Rattle.record.proofs.LayoutIs.{ranges-are}
 use Rattle.record.proofs.Granted.{granted-exactly}
 use Rattle.record.proofs.Reasons.{stop-small, reason-range, refused-exactly}
 
 module _ (file : List ℕ) (room : ℕ) where
   -- There are no more signers than statements.
-  grant-small : (count : ℕ) → Releases file room count → Small (Granted count)
+  grant-small : (count : ℕ) → GrantSays file room count → Small (Granted count)
   grant-small count r =
       let counted = r .counted in
       let few = r .keeps .sized .in-range .few-statements in

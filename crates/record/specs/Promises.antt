@@ -19,14 +19,14 @@ use Rattle.record.specs.Reasons.{Reason}
 -- What a grant says. "A record that keeps the layout and its limits, whose words are a proof of its goal and whose
 -- signers fit the list lent for them, is granted with its signers." "Within the limits, and with a list long enough for
 -- the signers, the checker grants every such proof and nothing else." (demands 1 and 2)
-pub record Releases (file : List ℕ) (room count : ℕ) : Type 0 where
+pub record GrantSays (file : List ℕ) (room count : ℕ) : Type 0 where
   pub keeps : Keeps file
   pub is-proof : IsProof file
   pub fits : length (signers file) ≤ room
   pub counted : count ≡ length (signers file)
 
 abbrev pub GrantedExactly : Type 0
-GrantedExactly = (file : List ℕ) (room count : ℕ) → recordAnswer file room ≡ Granted count ↔ Releases file room count
+GrantedExactly = (file : List ℕ) (room count : ℕ) → recordAnswer file room ≡ Granted count ↔ GrantSays file room count
 
 -- "Every other file, of any bytes and length, is refused by the first reason in the fixed order that applies, with its
 -- place" (demand 1): of those that apply the one that stands first in the checking order.

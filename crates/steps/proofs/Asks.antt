@@ -14,8 +14,8 @@ use Rattle.table.specs.Spelled.{spell, spellAll}
 use Rattle.table.specs.Number.{number}
 use Rattle.steps.specs.declared.goal.Goal.{Goal}
 use Rattle.steps.specs.declared.goal.Goal.the-variants.{True, Affirms}
-use Rattle.steps.specs.Obligation.{Obligation, goalFormula, alone, adding, addingBoth, under}
-use Rattle.steps.specs.Carried.{judgment, InTable}
+use Rattle.steps.specs.Obligation.{Obligation, alone, adding, addingBoth, under}
+use Rattle.steps.specs.Carried.{judgment, goalFormula, InTable}
 use Rattle.steps.proofs.Has.{Passed, Has, formulaOf, its-number, has}
 
 -- the proposition of a judgment, and its goal

@@ -15,7 +15,7 @@ use Rattle.table.specs.Spelled.{spell, spellAll}
 use Rattle.table.specs.Number.{number}
 use Rattle.steps.specs.declared.goal.Goal.{Goal}
 use Rattle.steps.specs.declared.goal.Goal.the-variants.{True, Affirms}
-use Rattle.steps.specs.Obligation.{Obligation, goalFormula}
+use Rattle.steps.specs.Obligation.{Obligation}
 use Rattle.steps.specs.Words.{words}
 
 -- the judgment that a goal spells out
@@ -34,6 +34,11 @@ pub record Proved (R : Relation) (limit : ℕ) (es : List Entry) (o : Obligation
 abbrev pub Carried : Relation → ℕ → List Entry → List Obligation → List ℕ → Type 0
 Carried R limit es [] ws = ws ≡ []
 Carried R limit es (o ∷ os) ws = (rest : List ℕ) × (Proved R limit es o ws rest × Carried R limit es os rest)
+
+-- the number of a goal's formula
+abbrev pub goalFormula : Goal → ℕ
+goalFormula (True f) = f .0
+goalFormula (Affirms k f) = f .0
 
 -- All numbers of an obligation are below F: 6 and 7 see to that.
 pub record InTable (es : List Entry) (o : Obligation) : Type 0 where

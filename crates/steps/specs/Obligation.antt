@@ -6,7 +6,7 @@ use mathlib.Core.List.{List, [], _∷_, _++_, map}
 use Rattle.table.specs.declared.entry.Formula.{Formula}
 use Rattle.table.specs.Entry.{formula}
 use Rattle.steps.specs.declared.goal.Goal.{Goal}
-use Rattle.steps.specs.declared.goal.Goal.the-variants.{True, Affirms}
+use Rattle.steps.specs.declared.goal.Goal.the-variants.{True}
 use Rattle.steps.specs.declared.opened.Added.{Added}
 use Rattle.steps.specs.declared.opened.Added.the-variants.{Nothing, One, Two}
 use Rattle.steps.specs.declared.opened.Premise.{Premise}
@@ -24,11 +24,6 @@ obligation statements n = record { hypotheses = statements; goal = True (formula
 -- file").
 abbrev pub obligations : List ℕ → List ℕ → List Obligation
 obligations statements goals = map (obligation statements) goals
-
--- the number of a goal's formula
-abbrev pub goalFormula : Goal → ℕ
-goalFormula (True f) = f .0
-goalFormula (Affirms k f) = f .0
 
 -- a premise: a goal, alone or with hypotheses added
 abbrev pub alone : Goal → Premise
