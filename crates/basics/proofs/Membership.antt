@@ -102,3 +102,13 @@ pub holds-last : (ms : List ℕ) (k n : ℕ) → holds (ms ++ (k ∷ [])) n ≡ 
 unfolding holds
 holds-last [] k n = refl
 holds-last (m ∷ ms) k n = rw (holds-last ms k n) (either (eqb m n) (eqb k n) (holds ms n))
+
+-- In one list after another stands what stands in either.
+nested : (a b c : Bool) → pick a true (pick b true c) ≡ pick (pick a true b) true c
+nested true b c = refl
+nested false b c = refl
+
+pub holds-append : (ms ns : List ℕ) (n : ℕ) → holds (ms ++ ns) n ≡ pick (holds ms n) true (holds ns n)
+unfolding holds
+holds-append [] ns n = refl
+holds-append (m ∷ ms) ns n = rw (holds-append ms ns n) (nested (eqb m n) (holds ms n) (holds ns n))

@@ -1,62 +1,58 @@
--- Laws of slots that hold hypotheses: they hold one more, what a premise adds and the statements. Assumes nothing.
-use Prim.Native.Nat.{ℕ, suc, _+_, _<_}
-use native.Mathlib.Nat.{add-zero, zero-add}
+-- The hypotheses that slots show once one more is held, or the statements. Assumes nothing.
+use Prim.Native.Nat.{ℕ, zero, suc, _<_}
 use native.Mathlib.Omega.{arith}
 use mathlib.Core.Bool.{Bool, true, false}
-use mathlib.Core.Path.{_≡_, refl, sym, _∙_}
+use mathlib.Core.Path.{_≡_, refl, sym, ap, _∙_}
 use mathlib.Core.List.{List, [], _∷_, _++_, append-nil}
-use lib.Dec.{eqb}
-use lib.ListN.{length, replicate, length-append, length-set, length-replicate, getD-replicate}
-use lib.Seq.{getD-set-same, getD-set-other, append-snoc}
-use borrow.Author.Tests.{eqb-true, eqb-false}
-use Rattle.basics.specs.Choice.{pick}
-use Rattle.basics.specs.Limits.{mostFormulas}
-use Rattle.basics.proofs.Choice.{pick-cases}
-use Rattle.basics.proofs.Membership.{holds-last}
+use lib.ListN.{getD, replicate}
+use lib.Seq.{append-snoc}
+use lib.Dec.{ltb}
+use Rattle.basics.specs.Choice.{both}
 use Rattle.basics.specs.Membership.{holds}
-use Rattle.steps.specs.Obligation.{added}
-use Rattle.steps.specs.declared.opened.Added.{Added}
-use Rattle.hypotheses.specs.Slots.{isHeld, Held, heldOne, heldAll, heldAdded, addedCount}
+use Rattle.basics.proofs.Membership.{holds-last, holds-append}
+use Rattle.hypotheses.specs.Slots.{half, isHeld, shown, heldOne, countOne, heldAll, countAll}
+use Rattle.hypotheses.specs.Trail.{marked, Live}
+use Rattle.hypotheses.proofs.Shown.{shows-shown}
+use Rattle.hypotheses.proofs.Trail.{live-hold, half-hold, shows-hold}
 
--- ---- one more hypothesis
+-- One more is shown after those that were.
+pub shown-hold : {s : List ℕ} {held : ℕ} (n i : ℕ) → Live s held → i < half s
+    → holds (shown (heldOne s held n)) i ≡ holds (shown s ++ (n ∷ [])) i
+shown-hold {s} {held} n i live l =
+    sym (shows-shown (heldOne s held n) i) ∙ shows-hold n i live l ∙ rw (holds-last (shown s) n i, ← shows-shown s i)
 
--- In the slots, it is the same.
-slot-of : (s : List Bool) (f n : ℕ) → n < length s → isHeld (heldOne s f) n ≡ pick (eqb f n) true (isHeld s n)
-slot-of s f n l = pick-cases (λ t. isHeld (heldOne s f) n ≡ t) (eqb f n)
-    (λ t. rw (eqb-true f n t) (getD-set-same s n true false l))
-    (λ t. getD-set-other s f n true false (λ e. eqb-false f n t (sym e)))
-
--- So the slots hold one more.
-held-one : {hs : List ℕ} {s : List Bool} {c : ℕ} (f : ℕ) → Held hs s c → Held (hs ++ (f ∷ [])) (heldOne s f) (c + 1)
-held-one {hs} {s} {c} f h = record {
-  counted = rw (length-append, h .counted);
-  sized = length-set s f true ∙ h .sized;
-  slot = λ n l. rw (holds-last, ← h .slot n l) (slot-of s f n (omega (arith, h .sized)));
-}
-
--- ---- more hypotheses
-
--- The slots hold each of ns in turn.
-held-more : {hs : List ℕ} {s : List Bool} {c : ℕ} (ns : List ℕ) → Held hs s c → Held (hs ++ ns) (heldAll s ns) (c + length ns)
+-- So are the statements, one by one.
+pub shown-all : {s : List ℕ} {held : ℕ} (ns : List ℕ) (i : ℕ) → Live s held → i < half s
+    → holds (shown (heldAll s held ns)) i ≡ holds (shown s ++ ns) i
 unfolding heldAll
-held-more [] h = rw (append-nil, add-zero) h
-held-more {c = c} (n ∷ ns) h =
-    let count : c + 1 + length ns ≡ c + suc (length ns) = omega arith in
-    rw (← append-snoc, ← count) (held-more ns (held-one n h))
+shown-all {s} {held} [] i live l = rw append-nil
+shown-all {s} {held} (n ∷ ns) i live l =
+    let more = shown-hold n i live l in
+    shown-all ns i (live-hold n live) (omega (arith, half-hold s held n))
+    ∙ rw (holds-append (shown (heldOne s held n)) ns i, more, ← holds-append (shown s ++ (n ∷ [])) ns i, append-snoc)
 
--- What a premise adds is held too.
-pub held-added : (hyps : List ℕ) (s : List Bool) (c : ℕ) (a : Added) → Held hyps s c → Held (hyps ++ added a) (heldAdded s a) (c + addedCount a)
-held-added hyps s c a h = held-more (added a) h
+pub live-all : {s : List ℕ} {held : ℕ} (ns : List ℕ) → Live s held → Live (heldAll s held ns) (countAll s held ns)
+unfolding heldAll countAll
+live-all [] live = live
+live-all (n ∷ ns) live = live-all ns (live-hold n live)
 
--- Slots of false hold nothing,
-none-held : Held [] (replicate mostFormulas false) 0
-unfolding holds
-none-held = record {
-  counted = refl;
-  sized = length-replicate {A = Bool} mostFormulas false;
-  slot = λ n l. getD-replicate mostFormulas n false false l;
-}
+pub half-all : (s : List ℕ) (held : ℕ) (ns : List ℕ) → half (heldAll s held ns) ≡ half s
+unfolding heldAll
+half-all s held [] = refl
+half-all s held (n ∷ ns) = half-all (heldOne s held n) (countOne s held n) ns ∙ half-hold s held n
 
--- and then the statements.
-pub held-all : (ns : List ℕ) → Held ns (heldAll (replicate mostFormulas false) ns) (length ns)
-held-all ns = rw zero-add at (held-more ns none-held)
+-- Slots that are all 0 show nothing.
+pub live-none : (s : List ℕ) → Live s 0
+live-none s = record { places = omega arith }
+
+zeros : (k i : ℕ) → _≡_ {A = ℕ} (getD (replicate k 0) i 0) 0
+zeros zero i = refl
+zeros (suc k) zero = refl
+zeros (suc k) (suc i) = zeros k i
+
+none-of : (t : Bool) → both t false ≡ false
+none-of true = refl
+none-of false = refl
+
+pub shown-none : (k i : ℕ) → holds (shown (replicate k 0)) i ≡ false
+shown-none k i = sym (shows-shown (replicate k 0) i) ∙ rw (zeros k i) (none-of (ltb i (half (replicate k 0))))

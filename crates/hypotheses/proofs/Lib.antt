@@ -1,4 +1,6 @@
--- Laws of the slots: how they change, which hypotheses they hold, and which they show. Assumes nothing.
+-- Laws of the slots: how the loops change them, which hypotheses they show, how the trail takes back what was added, and
+-- what the slots show once more is held. Assumes nothing.
 pub mod Slots
-pub mod Held
 pub mod Shown
+pub mod Trail
+pub mod Held

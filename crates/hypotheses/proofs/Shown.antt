@@ -1,62 +1,59 @@
--- The hypotheses that slots show, and that a step asks nothing else of hypotheses than whether the named one is there.
--- Assumes nothing.
-use Prim.Native.Nat.{ℕ, zero, suc, _+_, _<_}
+-- The hypotheses that slots show are those that they hold. Assumes nothing.
+use Prim.Native.Nat.{ℕ, zero, suc}
 use native.Mathlib.Omega.{arith}
-use native.Mathlib.Nat.{add-zero, add-suc, suc-add}
 use mathlib.Core.Bool.{Bool, true, false}
-use mathlib.Core.Path.{_≡_, refl, sym, ap, _∙_}
-use mathlib.Core.List.{List, [], _∷_}
-use lib.ListN.{getD}
-use borrow.Author.Tests.{eq-eqb, ne-eqb}
-use Rattle.basics.specs.Limits.{mostFormulas}
+use mathlib.Core.Path.{_≡_, refl, sym}
+use mathlib.Core.List.{List, _∷_}
+use lib.Dec.{eqb, ltb}
+use borrow.Author.Tests.{eq-eqb, ne-eqb, eqb-true, eqb-false, ltb-true, ltb-false, lt-ltb, le-ltb}
+use Rattle.basics.specs.Choice.{pick, both}
 use Rattle.basics.specs.Membership.{holds}
-use Rattle.basics.specs.Word.{upper, lower}
-use Rattle.table.specs.declared.entry.Entry.{Entry}
-use Rattle.steps.specs.declared.goal.Goal.{Goal}
-use Rattle.steps.specs.Step.{Rule, names, plain, unknown, rules, applied, opens, step}
-use Rattle.steps.specs.Figure1 as Figure1
-use Rattle.steps.specs.Figure1.{same}
-use Rattle.hypotheses.specs.Slots.{isHeld, shownFrom, shown, Held}
+use Rattle.hypotheses.specs.Slots.{half, isHeld, shownBelow, shown}
 
--- These hypotheses are those that the slots show, as far as a step can name them.
-abbrev pub Shows : List Bool → List ℕ → Type 0
-Shows slots hypotheses = (n : ℕ) → n < mostFormulas → isHeld slots n ≡ holds hypotheses n
+-- A test that is asked twice is asked once.
+asked-twice : (a b : Bool) → both a (both a b) ≡ both a b
+asked-twice true b = refl
+asked-twice false b = refl
 
--- No number before the first slot's is shown,
-before : (slots : List Bool) (n m : ℕ) → m < n → holds (shownFrom n slots) m ≡ false
-unfolding shownFrom holds
-before [] n m l = refl
-before (true ∷ slots) n m l = rw (ne-eqb n m (λ e. omega arith)) (before slots (suc n) m (omega arith))
-before (false ∷ slots) n m l = before slots (suc n) m (omega arith)
+-- A number other than k is below k + 1 where it is below k.
+one-further : (n k : ℕ) → ¬ (k ≡ n) → ltb n k ≡ ltb n (suc k)
+one-further n k other = by-test (ltb n k) refl
+  where
+    by-test : (t : Bool) → ltb n k ≡ t → t ≡ ltb n (suc k)
+    by-test true e = sym (lt-ltb n (suc k) (omega (arith, ltb-true)))
+    by-test false e = sym (le-ltb n (suc k) (omega (arith, ltb-false)))
 
--- and after it those whose slots are true.
-from : (slots : List Bool) (n k : ℕ) → isHeld slots k ≡ holds (shownFrom n slots) (n + k)
-unfolding shownFrom holds
-from [] n k = refl
-from (true ∷ slots) n zero = rw (add-zero n, eq-eqb n n refl)
-from (false ∷ slots) n zero = rw (add-zero n) (sym (before slots (suc n) n (omega arith)))
-from (true ∷ slots) n (suc k) = rw (add-suc n k, ← suc-add n k, ne-eqb n (suc n + k) (λ e. omega arith)) (from slots (suc n) k)
-from (false ∷ slots) n (suc k) = rw (add-suc n k, ← suc-add n k) (from slots (suc n) k)
+-- Whether k is put in front tells nothing of another number,
+of-another : (t : Bool) (k n : ℕ) (ms : List ℕ) → ¬ (k ≡ n) → holds (pick t (k ∷ ms) ms) n ≡ holds ms n
+unfolding holds
+of-another true k n ms other = rw (ne-eqb k n other)
+of-another false k n ms other = refl
 
-pub shows-shown : (slots : List Bool) → Shows slots (shown slots)
-shows-shown slots n l = from slots 0 n ∙ ap (holds (shown slots)) (omega arith)
+-- and of k itself it tells all, where k was not there.
+of-itself : (t : Bool) (k : ℕ) (ms : List ℕ) → holds ms k ≡ false → holds (pick t (k ∷ ms) ms) k ≡ t
+unfolding holds
+of-itself true k ms new = rw (eq-eqb k k refl)
+of-itself false k ms new = new
 
--- Slots show the hypotheses that they hold.
-pub held-shows : {hyps : List ℕ} {s : List Bool} {c : ℕ} → Held hyps s c → Shows s hyps
-held-shows h = h .slot
+-- Of the numbers below k those are shown that are held,
+below : (slots : List ℕ) (k n : ℕ) → holds (shownBelow slots k) n ≡ both (ltb n k) (isHeld slots n)
+unfolding shownBelow holds
+below slots zero n = rw (le-ltb n zero (omega arith))
+below slots (suc k) n =
+    let new : holds (shownBelow slots k) k ≡ false = rw (below slots k k, le-ltb k k (omega arith)) in
+    let same : holds (shownBelow slots (suc k)) k ≡ both (ltb k (suc k)) (isHeld slots k) =
+    rw (of-itself (isHeld slots k) k (shownBelow slots k) new, lt-ltb k (suc k) (omega arith)) in
+    let another : ¬ (k ≡ n) → holds (shownBelow slots (suc k)) n ≡ both (ltb n (suc k)) (isHeld slots n) =
+    λ other. rw (of-another (isHeld slots k) k n (shownBelow slots k) other, below slots k n, one-further n k other) in
+    by-test (eqb k n) refl same another
+  where
+    by-test : (t : Bool) → eqb k n ≡ t
+        → holds (shownBelow slots (suc k)) k ≡ both (ltb k (suc k)) (isHeld slots k)
+        → (¬ (k ≡ n) → holds (shownBelow slots (suc k)) n ≡ both (ltb n (suc k)) (isHeld slots n))
+        → holds (shownBelow slots (suc k)) n ≡ both (ltb n (suc k)) (isHeld slots n)
+    by-test true e same another = rw (← eqb-true k n e) same
+    by-test false e same another = another (eqb-false k n e)
 
--- A rule asks only whether the named formula is held.
-applied-same : (es : List Entry) (rule : Rule) (hs ks : List ℕ) (n : ℕ) (g : Goal) → holds hs n ≡ holds ks n
-    → applied same es rule hs n g ≡ applied same es rule ks n g
-applied-same es (names rule) hs ks n g e = rw e
-applied-same es (plain rule) hs ks n g e = refl
-applied-same es unknown hs ks n g e = refl
-
--- So a step is the same for all hypotheses that the slots show.
-pub step-shown : (es : List Entry) (slots : List Bool) (hs : List ℕ) (w : ℕ) (g : Goal) (d : ℕ) → Shows slots hs
-    → Figure1.step es w (record { hypotheses = shown slots; goal = g; depth = d }) ≡ Figure1.step es w (record { hypotheses = hs; goal = g; depth = d })
-unfolding step opens
-step-shown es slots hs w g d shows =
-    let n = lower w in
-    rw (applied-same es (getD (rules same es) (upper w) unknown) (shown slots) hs n g
-    (sym (shows-shown slots n (omega arith)) ∙ shows n (omega arith)))
+-- so the slots show exactly what they hold.
+pub shows-shown : (slots : List ℕ) (n : ℕ) → isHeld slots n ≡ holds (shown slots) n
+shows-shown slots n = rw (below slots (half slots) n) (sym (asked-twice (ltb n (half slots)) _))

@@ -1,59 +1,46 @@
--- Laws of the slots: statements are held one by one, the slots stay as many, and what is held and taken back leaves
--- them as they were. Assumes nothing.
-use Prim.Native.Nat.{ℕ, _+_, _<_, _≤_}
+-- Laws of the slots, for the two loops: statements are held one by one, and hypotheses are taken back one by one.
+-- Assumes nothing.
+use Prim.Native.Nat.{ℕ, zero, suc, _+_, _-_, _<_, _≤_}
 use native.Mathlib.Omega.{arith}
-use native.Mathlib.Numerals.{add-one}
-use mathlib.Core.Bool.{Bool}
-use mathlib.Core.Path.{_≡_, refl, _∙_}
-use mathlib.Core.List.{List, [], _∷_}
-use lib.ListN.{length, getD, set, drop, length-set}
-use lib.Seq.{set-set, set-getD, drop-cons, drop-length}
-use Rattle.steps.specs.Obligation.{added}
-use Rattle.steps.specs.declared.opened.Added.{Added}
-use Rattle.steps.specs.declared.opened.Added.the-variants.{Nothing, One, Two}
-use Rattle.hypotheses.specs.declared.hypotheses.Saved.{Saved}
-use Rattle.hypotheses.specs.Slots.{isHeld, heldOne, heldAll, heldAdded, savedOf, releasedAdded}
-
--- ---- one by one
+use native.Mathlib.Numerals.{add-one, sub-one}
+use mathlib.Core.Path.{_≡_, refl}
+use mathlib.Core.List.{List}
+use lib.ListN.{length, getD, set, drop}
+use lib.Seq.{drop-cons, drop-length}
+use borrow.Author.Tests.{lt-ltb, le-ltb}
+use Rattle.hypotheses.specs.Slots.{half, heldOne, countOne, heldAll, countAll, unmarked, releasedTo}
 
 -- The statements from position i on: the one there, then the rest.
-pub hold-next : (s : List Bool) (ns : List ℕ) (i : ℕ) → i < length ns
-    → heldAll s (drop i ns) ≡ heldAll (heldOne s (getD ns i 0)) (drop (i + 1) ns)
-unfolding heldAll
-hold-next s ns i l = rw (drop-cons ns i 0, heldAll, add-one)
+pub hold-next : (s : List ℕ) (held : ℕ) (ns : List ℕ) (i : ℕ) → i < length ns
+    → let n = getD ns i 0 in
+    (heldAll s held (drop i ns) ≡ heldAll (heldOne s held n) (countOne s held n) (drop (i + 1) ns))
+    × (countAll s held (drop i ns) ≡ countAll (heldOne s held n) (countOne s held n) (drop (i + 1) ns))
+unfolding heldAll countAll
+hold-next s held ns i l = rw (drop-cons ns i 0, heldAll, countAll, add-one i) (refl, refl)
 
 -- No statement is left at the end.
-pub hold-end : (s : List Bool) (ns : List ℕ) (i : ℕ) → i ≡ length ns → heldAll s (drop i ns) ≡ s
-unfolding heldAll
-hold-end s ns i e = rw (e, drop-length)
+pub hold-end : (s : List ℕ) (held : ℕ) (ns : List ℕ) (i : ℕ) → i ≡ length ns
+    → (heldAll s held (drop i ns) ≡ s) × (countAll s held (drop i ns) ≡ held)
+unfolding heldAll countAll
+hold-end s held ns i e = rw (e, drop-length) (refl, refl)
 
--- ---- as many slots as before
+-- The hypotheses at the places before i: the last of them, then the rest.
+release-next : (s : List ℕ) (from i : ℕ) → from < i
+    → releasedTo s from i ≡ releasedTo (unmarked s (getD s (half s + (i - 1)) 0)) from (i - 1)
+unfolding releasedTo
+release-next s from zero l = absurd (omega arith)
+release-next s from (suc i) l = rw (le-ltb i from (omega arith), sub-one (suc i))
 
-pub length-held-all : (s : List Bool) (ns : List ℕ) → length (heldAll s ns) ≡ length s
-unfolding heldAll
-length-held-all s [] = refl
-length-held-all s (n ∷ ns) = length-held-all (heldOne s n) ns ∙ length-set s n _
+-- The same, by whether the number at the last place has a mark; h is how many marks there are.
+module _ (s : List ℕ) (from i : ℕ) {h : ℕ} (halves : half s ≡ h) (l : from < i) where
+  pub release-marked : getD s (h + (i - 1)) 0 < h → releasedTo s from i ≡ releasedTo (set s (getD s (h + (i - 1)) 0) 0) from (i - 1)
+  release-marked marked = rw (halves, lt-ltb _ _ marked) at (release-next s from i l)
 
--- ---- what is held and taken back leaves the slots as they were
+  pub release-unmarked : h ≤ getD s (h + (i - 1)) 0 → releasedTo s from i ≡ releasedTo s from (i - 1)
+  release-unmarked other = rw (halves, le-ltb _ _ other) at (release-next s from i l)
 
--- One formula, held and put back.
-released-one : (s : List Bool) (n : ℕ) → set (heldOne s n) n (isHeld s n) ≡ s
-released-one s n = rw (set-set, set-getD)
-
--- What a premise adds; where both are one formula, the second's old value is the first's new one.
-pub released : (s : List Bool) (a : Added) → releasedAdded (heldAdded s a) a (savedOf s a) ≡ s
-unfolding heldAll
-released s Nothing = refl
-released s (One f) = released-one s (f .0)
-released s (Two f g) = rw (released-one (heldOne s (f .0)) (g .0)) (released-one s (f .0))
-
--- A premise adds two formulas at most.
-pub few-added : (a : Added) → length (added a) ≤ 2
-few-added Nothing = omega arith
-few-added (One f) = omega arith
-few-added (Two f g) = omega arith
-
--- The same, by what each call of the code left.
-pub restored : (s : List Bool) (a : Added) (saved : Saved) (during later end : List Bool)
-    → saved ≡ savedOf s a → during ≡ heldAdded s a → later ≡ during → end ≡ releasedAdded later a saved → end ≡ s
-restored s a saved during later end e f g h = rw (h, g, f, e) (released s a)
+-- None is left at the first place.
+pub release-end : (s : List ℕ) (from i : ℕ) → i ≤ from → releasedTo s from i ≡ s
+unfolding releasedTo
+release-end s from zero l = refl
+release-end s from (suc i) l = rw (lt-ltb i from (omega arith))

@@ -1,2 +1,4 @@
--- How lent slots stand for hypotheses. The hypotheses of a step are in the crate `steps`.
+-- How lent slots stand for hypotheses, and what a walk leaves of them. The hypotheses of a step are in the crate
+-- `steps`.
 pub mod Slots
+pub mod Trail

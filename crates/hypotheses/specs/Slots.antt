@@ -1,61 +1,58 @@
--- Slots: the hypotheses held, one flag for each formula, true where that formula is held. "Hypotheses are truths and
--- form a set: a statement that stands twice is one hypothesis." (01) Assumes nothing.
-use Prim.Native.Nat.{ℕ, suc, _<_}
-use mathlib.Core.Bool.{Bool, true, false}
-use mathlib.Core.Path.{_≡_}
+-- Slots: the hypotheses held. "Hypotheses are truths and form a set: a statement that stands twice is one hypothesis."
+-- (01) The first half of the slots has a mark for each formula number, 0 where that formula isn't held. The second half
+-- has the list of hypotheses: what is held, each once, in the order in which it came, the statements first. The part of
+-- the list that premises added is the trail by which it is taken back. Assumes nothing.
+use Prim.Native.Nat.{ℕ, zero, suc, _+_, _/_, min}
+use mathlib.Core.Bool.{Bool, not}
 use mathlib.Core.List.{List, [], _∷_}
+use lib.Dec.{eqb, ltb}
 use lib.ListN.{length, getD, set}
-use Rattle.basics.specs.Choice.{pick}
-use Rattle.basics.specs.Limits.{mostFormulas}
-use Rattle.basics.specs.Membership.{holds}
-use Rattle.steps.specs.Obligation.{added}
-use Rattle.steps.specs.declared.opened.Added.{Added}
-use Rattle.steps.specs.declared.opened.Added.the-variants.{Nothing, One, Two}
-use Rattle.hypotheses.specs.declared.hypotheses.Saved.{Saved}
+use Rattle.basics.specs.Choice.{pick, both}
 
--- whether the slots show n as a hypothesis; a number past them is none
-abbrev pub isHeld : List Bool → ℕ → Bool
-isHeld slots n = getD slots n false
+-- how many marks there are, and places
+abbrev pub half : List ℕ → ℕ
+half slots = length slots / 2
 
--- The hypotheses that slots show: the formulas whose slots are true. The first slot is that of formula n.
-unfoldable pub shownFrom : ℕ → List Bool → List ℕ
-shownFrom n [] = []
-shownFrom n (s ∷ slots) = pick s (n ∷ shownFrom (suc n) slots) (shownFrom (suc n) slots)
+-- whether the slots show n as a hypothesis; a number past the marks is none
+abbrev pub isHeld : List ℕ → ℕ → Bool
+isHeld slots n = both (ltb n (half slots)) (not (eqb (getD slots n 0) 0))
 
-abbrev pub shown : List Bool → List ℕ
-shown slots = shownFrom 0 slots
+-- the hypotheses that slots show: those of the numbers below n, and all
+unfoldable pub shownBelow : List ℕ → ℕ → List ℕ
+shownBelow slots zero = []
+shownBelow slots (suc n) = pick (isHeld slots n) (n ∷ shownBelow slots n) (shownBelow slots n)
 
--- The slots hold these hypotheses, count of them. A number past the slots has none.
-pub record Held (hypotheses : List ℕ) (slots : List Bool) (count : ℕ) : Type 0 where
-  pub counted : count ≡ length hypotheses
-  pub sized : length slots ≡ mostFormulas
-  pub slot : (n : ℕ) → n < mostFormulas → isHeld slots n ≡ holds hypotheses n
+abbrev pub shown : List ℕ → List ℕ
+shown slots = shownBelow slots (half slots)
 
--- n held
-abbrev pub heldOne : List Bool → ℕ → List Bool
-heldOne slots n = set slots n true
+-- n isn't held yet, and has a mark and, after so many hypotheses, a place
+abbrev pub isNew : List ℕ → ℕ → ℕ → Bool
+isNew slots held n = both (ltb n (half slots)) (both (ltb held (half slots)) (eqb (getD slots n 0) 0))
+
+-- n held: it takes the next place, and there is one hypothesis more; unless it is held already
+abbrev pub heldOne : List ℕ → ℕ → ℕ → List ℕ
+heldOne slots held n = pick (isNew slots held n) (set (set slots n 1) (half slots + held) n) slots
+
+abbrev pub countOne : List ℕ → ℕ → ℕ → ℕ
+countOne slots held n = pick (isNew slots held n) (held + 1) held
 
 -- numbers held, one after another
-unfoldable pub heldAll : List Bool → List ℕ → List Bool
-heldAll slots [] = slots
-heldAll slots (n ∷ ns) = heldAll (heldOne slots n) ns
+unfoldable pub heldAll : List ℕ → ℕ → List ℕ → List ℕ
+heldAll slots held [] = slots
+heldAll slots held (n ∷ ns) = heldAll (heldOne slots held n) (countOne slots held n) ns
 
--- what a premise adds, held
-abbrev pub heldAdded : List Bool → Added → List Bool
-heldAdded slots a = heldAll slots (added a)
+unfoldable pub countAll : List ℕ → ℕ → List ℕ → ℕ
+countAll slots held [] = held
+countAll slots held (n ∷ ns) = countAll (heldOne slots held n) (countOne slots held n) ns
 
--- how many a premise adds
-abbrev pub addedCount : Added → ℕ
-addedCount a = length (added a)
+-- the mark of n taken away
+abbrev pub unmarked : List ℕ → ℕ → List ℕ
+unmarked slots n = pick (ltb n (half slots)) (set slots n 0) slots
 
--- the old values of their slots, the second as it is once the first is held
-abbrev pub savedOf : List Bool → Added → Saved
-savedOf slots Nothing = record { 0 = false; 1 = false }
-savedOf slots (One f) = record { 0 = isHeld slots (f .0); 1 = false }
-savedOf slots (Two f g) = record { 0 = isHeld slots (f .0); 1 = isHeld (heldOne slots (f .0)) (g .0) }
+-- the hypotheses at the places from the first to before the second taken back, the last first
+unfoldable pub releasedTo : List ℕ → ℕ → ℕ → List ℕ
+releasedTo slots from zero = slots
+releasedTo slots from (suc to) = pick (ltb to from) slots (releasedTo (unmarked slots (getD slots (half slots + to) 0)) from to)
 
--- the old values put back, the second first
-abbrev pub releasedAdded : List Bool → Added → Saved → List Bool
-releasedAdded slots Nothing saved = slots
-releasedAdded slots (One f) saved = set slots (f .0) (saved .0)
-releasedAdded slots (Two f g) saved = set (set slots (g .0) (saved .1)) (f .0) (saved .0)
+abbrev pub released : List ℕ → ℕ → ℕ → List ℕ
+released slots from to = releasedTo slots from (min to (half slots))

@@ -1,96 +1,67 @@
-// The hypotheses held, as slots: one flag for each formula number, true where that formula is held.
+// The hypotheses held, as slots: in their first half a mark for each formula number, in their second half the list of
+// hypotheses, each once, in the order in which they came.
 ghost use mathlib.Core.Path.{_≡_};
-ghost use lib.ListN.{set};
-ghost use Rattle.hypotheses.specs.Slots.{isHeld, heldOne, heldAdded, savedOf, releasedAdded, addedCount, heldAll};
-use steps::opened::Added;
-
-// The slots' old values, to be put back after a premise.
-pub struct Saved(pub bool, pub bool);
+ghost use Rattle.hypotheses.specs.Slots.{isHeld, heldOne, countOne, heldAll, countAll, released};
+use table::entry::Formula;
 
 // Whether the slots show a number as a hypothesis.
-pub fn is_held(slots: &[bool], n: u16) -> bool
+pub fn is_held(slots: &[u16], n: u16) -> bool
     ensures { λ r. ⌜ r ≡ isHeld (now (slots .entry)) n ⌝ }
 {
     let i = n as usize;
-    i < slots.len() && slots[i]
+    i < slots.len() / 2 && slots[i] != 0
 }
 
-// Holds a formula; answers the slot's old value.
-fn hold_one(slots: &mut [bool], n: u16) -> bool
-    ensures { λ r. ⌜ (r ≡ isHeld (now (slots .entry)) n) × (now (slots .exit) ≡ heldOne (now (slots .entry)) n) ⌝ }
+// Holds the formula of a number, unless it is held already: it takes the place after so many hypotheses. Answers how
+// many there are then.
+fn hold_number(slots: &mut [u16], held: usize, n: u16) -> usize
+    ensures { λ r. ⌜ r ≡ countOne (now (slots .entry)) held n ⌝ }
+    ensures { λ _. ⌜ now (slots .exit) ≡ heldOne (now (slots .entry)) held n ⌝ }
 {
+    let half = slots.len() / 2;
     let i = n as usize;
-    if i < slots.len() {
-        let old = slots[i];
-        slots[i] = true;
-        old
+    if i < half && held < half && slots[i] == 0 {
+        slots[i] = 1;
+        slots[half + held] = n;
+        held + 1
     } else {
-        false
+        held
     }
 }
 
-// Puts a slot's old value back.
-fn put_back(slots: &mut [bool], n: u16, old: bool)
-    ensures { λ _. ⌜ now (slots .exit) ≡ set (now (slots .entry)) n old ⌝ }
+// The same for a formula.
+pub fn hold(slots: &mut [u16], held: usize, f: Formula) -> usize
+    ensures { λ r. ⌜ r ≡ countOne (now (slots .entry)) held (f .0) ⌝ }
+    ensures { λ _. ⌜ now (slots .exit) ≡ heldOne (now (slots .entry)) held (f .0) ⌝ }
 {
-    let i = n as usize;
-    if i < slots.len() {
-        slots[i] = old;
-    }
+    hold_number(slots, held, f.0)
 }
 
-// How many hypotheses a premise adds.
-pub fn added_count(added: Added) -> usize
-    ensures { λ r. ⌜ r ≡ addedCount added ⌝ }
+// Takes back the hypotheses at the places from `from` to before `to`, the last first.
+pub fn release(slots: &mut [u16], from: usize, to: usize)
+    ensures { λ _. ⌜ now (slots .exit) ≡ released (now (slots .entry)) from to ⌝ }
 {
-    match added {
-        Added::Nothing => 0,
-        Added::One(_) => 1,
-        Added::Two(_, _) => 2,
-    }
-}
-
-// Holds what a premise adds.
-pub fn hold_added(slots: &mut [bool], added: Added) -> Saved
-    ensures { λ r. ⌜ (r ≡ savedOf (now (slots .entry)) added) × (now (slots .exit) ≡ heldAdded (now (slots .entry)) added) ⌝ }
-{
-    match added {
-        Added::Nothing => Saved(false, false),
-        Added::One(f) => {
-            let old = hold_one(slots, f.0);
-            Saved(old, false)
-        }
-        Added::Two(f, g) => {
-            let first = hold_one(slots, f.0);
-            let second = hold_one(slots, g.0);
-            Saved(first, second)
+    let half = slots.len() / 2;
+    let mut i = if to < half { to } else { half };
+    while from < i {
+        i -= 1;
+        let n = slots[half + i] as usize;
+        if n < half {
+            slots[n] = 0;
         }
     }
 }
 
-// Takes back what a premise added, the last first.
-pub fn release_added(slots: &mut [bool], added: Added, saved: Saved)
-    ensures { λ _. ⌜ now (slots .exit) ≡ releasedAdded (now (slots .entry)) added saved ⌝ }
+// Holds the statements, where nothing is held yet. Answers how many hypotheses there are then.
+pub fn hold_all(slots: &mut [u16], statements: &[u16]) -> usize
+    ensures { λ r. ⌜ r ≡ countAll (now (slots .entry)) 0 (now (statements .entry)) ⌝ }
+    ensures { λ _. ⌜ now (slots .exit) ≡ heldAll (now (slots .entry)) 0 (now (statements .entry)) ⌝ }
 {
-    match added {
-        Added::Nothing => {}
-        Added::One(f) => {
-            put_back(slots, f.0, saved.0);
-        }
-        Added::Two(f, g) => {
-            put_back(slots, g.0, saved.1);
-            put_back(slots, f.0, saved.0);
-        }
-    }
-}
-
-// Holds the statements.
-pub fn hold_all(slots: &mut [bool], statements: &[u16])
-    ensures { λ _. ⌜ now (slots .exit) ≡ heldAll (now (slots .entry)) (now (statements .entry)) ⌝ }
-{
+    let mut held = 0;
     let mut i = 0;
     while i < statements.len() {
-        hold_one(slots, statements[i]);
+        held = hold_number(slots, held, statements[i]);
         i += 1;
     }
+    held
 }

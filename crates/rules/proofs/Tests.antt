@@ -1,25 +1,29 @@
--- Laws of tests 11 and 12: which numbers have an entry, which codes have no rule, and that the slots answer 12. Assumes
--- nothing.
-use Prim.Native.Nat.{ℕ, zero, suc, _≤_, min}
+-- Laws of tests 10 to 12: which numbers have an entry, which codes have no rule, and that with 12 answered by the slots
+-- a step is the rule of its word's code. Assumes nothing.
+use Prim.Native.Nat.{ℕ, zero, suc, _<_, _≤_, min}
 use native.Mathlib.Omega.{arith}
 use mathlib.Core.Bool.{Bool, true, false}
-use mathlib.Core.Path.{_≡_, refl, sym, ap, ap₂, _∙_}
+use mathlib.Core.Path.{_≡_, refl, sym}
 use mathlib.Core.List.{List}
-use lib.ListN.{length, getD}
+use lib.ListN.{length, getD, List·getD-eq-default}
 use lib.Dec.{ltb}
-use borrow.Author.Tests.{lt-ltb, le-ltb, ltb-true, ltb-false}
+use borrow.Author.Tests.{lt-ltb, le-ltb, le-leb, lt-leb, ltb-true, ltb-false}
 use Rattle.basics.specs.Choice.{both}
+use Rattle.basics.specs.Limits.{mostDepth}
 use Rattle.basics.specs.Membership.{holds}
 use Rattle.basics.specs.Word.{upper, lower}
 use Rattle.table.specs.declared.entry.Entry.{Entry}
 use Rattle.table.specs.Tests.{entries}
 use Rattle.table.proofs.Entries.{length-entries}
+use Rattle.steps.specs.declared.goal.Goal.{Goal}
 use Rattle.steps.specs.declared.opened.Opened.{Opened}
+use Rattle.steps.specs.declared.opened.Opened.the-variants as Opening
 use Rattle.steps.specs.Obligation.{Obligation}
-use Rattle.steps.specs.Step.{Rule, names, plain, unknown, rules, applied, opens}
+use Rattle.steps.specs.Step.{Rule, names, plain, unknown, rules, applied, opens, step}
+use Rattle.steps.specs.Figure1 as Figure1
 use Rattle.steps.specs.Figure1.{same}
-use Rattle.hypotheses.specs.Slots.{isHeld}
-use Rattle.hypotheses.proofs.Shown.{Shows}
+use Rattle.hypotheses.specs.Slots.{isHeld, shown}
+use Rattle.hypotheses.proofs.Shown.{shows-shown}
 use Rattle.rules.specs.Tested.{tested}
 
 -- A number has an entry where both arrays have a word.
@@ -37,23 +41,40 @@ abbrev pub NoneBelow : ℕ → ℕ → Type 0
 NoneBelow zero x = Unit
 NoneBelow (suc k) x = NoneBelow k x × ¬ (x ≡ k)
 
-pub past : (k x : ℕ) → NoneBelow k x → k ≤ x
+past : (k x : ℕ) → NoneBelow k x → k ≤ x
 past zero x none = omega arith
 past (suc k) x (none, other) = omega (arith, past k x none)
 
--- With 12 answered, tests 11 to 14 are those of a step.
-is-applied : (es : List Entry) (rule : Rule) (o : Obligation) (n : ℕ)
-    → tested rule (both (ltb n (length es)) (holds (o .hypotheses) n)) n (o .goal) ≡ applied same es rule (o .hypotheses) n (o .goal)
-is-applied es (names rule) o n = refl
-is-applied es (plain rule) o n = refl
-is-applied es unknown o n = refl
+-- A code past the last is no rule, and is refused 11.
+pub no-rule : (es : List Entry) (code : ℕ) (held : Bool) (n : ℕ) (g : Goal) → NoneBelow 12 code
+    → Opening.Refused 11 ≡ tested (getD (rules same es) code unknown) held n g
+no-rule es code held n g none = rw (List·getD-eq-default (rules same es) unknown (past 12 code none))
 
--- The slots answer 12 for the hypotheses that they show, by the code and the part that the code has of the word.
-pub opened : (es : List Entry) (slots : List Bool) (w : ℕ) (o : Obligation) → Shows slots (o .hypotheses)
-    → {code n : ℕ} → code ≡ upper w → n ≡ lower w → {held : Bool} → held ≡ both (ltb n (length es)) (isHeld slots n)
-    → {r : Opened} → r ≡ tested (getD (rules same es) code unknown) held n (o .goal) → r ≡ opens same es w o
-unfolding opens
-opened es slots w o shows k m {held} e f =
-    let asked : held ≡ both (ltb (lower w) (length es)) (isHeld slots (lower w)) = e ∙ ap (λ (z : ℕ). both (ltb z (length es)) (isHeld slots z)) m in
-    rw (← is-applied es (getD (rules same es) (upper w) unknown) o (lower w), ← shows (lower w) (omega arith), ← asked)
-    (f ∙ ap₂ (λ (z y : ℕ). tested (getD (rules same es) z unknown) held y (o .goal)) k m)
+-- the obligation at a place of the walk
+abbrev pub here : List ℕ → Goal → ℕ → Obligation
+here slots g d = record { hypotheses = shown slots; goal = g; depth = d }
+
+-- the rule of a code, with 12 answered by the slots
+abbrev pub bySlots : List Entry → List ℕ → Goal → ℕ → ℕ → Opened
+bySlots es slots g code n = tested (getD (rules same es) code unknown) (both (ltb n (length es)) (isHeld slots n)) n g
+
+-- Where the hypotheses answer 12, it is what a step applies.
+is-applied : (es : List Entry) (rule : Rule) (hs : List ℕ) (n : ℕ) (g : Goal)
+    → tested rule (both (ltb n (length es)) (holds hs n)) n g ≡ applied same es rule hs n g
+is-applied es (names rule) hs n g = refl
+is-applied es (plain rule) hs n g = refl
+is-applied es unknown hs n g = refl
+
+module _ (es : List Entry) (slots : List ℕ) (g : Goal) (d w : ℕ) where
+  -- At a depth above 512 a step is refused 10,
+  pub too-deep : mostDepth < d → Opening.Refused 10 ≡ Figure1.step es w (here slots g d)
+  unfolding step
+  too-deep l = rw (lt-leb d mostDepth l)
+
+  -- and at any other it is the rule of its word's code.
+  pub step-is : d ≤ mostDepth → {code n : ℕ} → code ≡ upper w → n ≡ lower w
+      → bySlots es slots g code n ≡ Figure1.step es w (here slots g d)
+  unfolding step opens
+  step-is l k m =
+      rw (le-leb d mostDepth l, k, m, shows-shown slots (lower w))
+      (is-applied es (getD (rules same es) (upper w) unknown) (shown slots) (lower w) g)

@@ -1,5 +1,5 @@
--- Tests 11 to 14 where it is known whether the named formula is a hypothesis: `applied` of the crate `steps`, for the
--- contracts of private functions. Assumes nothing.
+-- Tests 11 to 14 where it is known whether the named formula is a hypothesis: `applied` of the crate `steps`, for callers
+-- that answer 12 in their own way. Assumes nothing.
 use Prim.Native.Nat.{ℕ}
 use mathlib.Core.Bool.{Bool}
 use lib.Dec.{eqb}

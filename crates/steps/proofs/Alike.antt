@@ -1,16 +1,19 @@
 -- Hypotheses form a set, and what a refusal can be (specs/Alike.antt). In order: a step of obligations that are alike;
 -- their walk; the number of a step's refusal; number and place of a run's. Assumes nothing.
-use Prim.Native.Nat.{ℕ, suc, _+_, _≤_}
+use Prim.Native.Nat.{ℕ, suc, _+_, _<_, _≤_}
 use native.Mathlib.Omega.{arith}
 use mathlib.Core.Bool.{Bool, true, false}
 use mathlib.Core.Path.{_≡_, refl, sym, ap, fun-ext}
 use mathlib.Core.Logic.{_↔_, Iff·trans, Iff·symm}
 use mathlib.Core.List.{List, [], _∷_, _++_, map, Forall₂, Forall₂·nil, Forall₂·cons}
 use lib.ListN.{length, getD}
-use lib.Dec.{eqb, leb}
-use Rattle.basics.specs.Membership.{_⊆_, holds}
+use lib.Dec.{eqb, ltb, leb}
+use borrow.Author.Tests.{ltb-true}
+use Rattle.basics.specs.Choice.{pick, both}
+use Rattle.basics.specs.Limits.{mostFormulas}
+use Rattle.basics.specs.Membership.{holds}
 use Rattle.basics.specs.Word.{upper, lower}
-use Rattle.basics.proofs.Membership.{⊆-trans, ⊆-left, ⊆-right, ⊆-append, holds-member}
+use Rattle.basics.proofs.Membership.{holds-member, holds-append}
 use Rattle.basics.proofs.Choice.{pick-cases}
 use Rattle.table.specs.declared.entry.Formula.{Formula}
 use Rattle.table.specs.declared.entry.Principal.{Principal}
@@ -34,55 +37,75 @@ use Rattle.steps.proofs.Parts.{refusedAt}
 
 -- ---- a step of obligations that are alike
 
+-- the same goal at the same depth, from hypotheses that are the same as far as a step can name them
+pub record AsNamed (es : List Entry) (o o′ : Obligation) : Type 0 where
+  pub same-goal : o .goal ≡ o′ .goal
+  pub same-depth : o .depth ≡ o′ .depth
+  pub same-named : (n : ℕ) → n < length es → n < mostFormulas → holds (o .hypotheses) n ≡ holds (o′ .hypotheses) n
+
 -- Two tests that are true together are one.
 same-test : (a b : Bool) → a ≡ true ↔ b ≡ true → a ≡ b
 same-test true b e = sym (e .0 refl)
 same-test false true e = e .1 refl
 same-test false false e = refl
 
--- test 12's search
-held-alike : {o o′ : Obligation} → Alike o o′ → (n : ℕ) → holds (o .hypotheses) n ≡ holds (o′ .hypotheses) n
-held-alike {o} {o′} a n =
-    same-test (holds (o .hypotheses) n) (holds (o′ .hypotheses) n)
-    (Iff·trans (holds-member (o .hypotheses) n) (Iff·trans (a .same-set n) (Iff·symm (holds-member (o′ .hypotheses) n))))
+-- A second test counts only where the first is passed.
+both-same : (t : Bool) {a b : Bool} → (t ≡ true → a ≡ b) → both t a ≡ both t b
+both-same true e = e refl
+both-same false e = refl
+
+-- From the same set of numbers, whatever is named is the same.
+alike-named : (es : List Entry) {o o′ : Obligation} → Alike o o′ → AsNamed es o o′
+alike-named es {o} {o′} a = record {
+  same-goal = a .same-goal;
+  same-depth = a .same-depth;
+  same-named = λ n l m. same-test (holds (o .hypotheses) n) (holds (o′ .hypotheses) n)
+      (Iff·trans (holds-member (o .hypotheses) n) (Iff·trans (a .same-set n) (Iff·symm (holds-member (o′ .hypotheses) n))));
+}
 
 module _ (speaks : ℕ → ℕ → Bool) (es : List Entry) where
-  -- A rule asks of the hypotheses only whether what it names is held.
-  applied-alike : (rule : Rule) (hs hs′ : List ℕ) (n : ℕ) (g : Goal) → holds hs n ≡ holds hs′ n
+  -- A rule asks of the hypotheses only whether what it names is held, and a number of F or more never is.
+  applied-alike : (rule : Rule) (hs hs′ : List ℕ) (n : ℕ) (g : Goal) → (n < length es → holds hs n ≡ holds hs′ n)
       → applied speaks es rule hs n g ≡ applied speaks es rule hs′ n g
-  applied-alike (names rule) hs hs′ n g e = rw e
+  applied-alike (names rule) hs hs′ n g e =
+      ap (λ t. pick t (rule n g) (Opening.Refused 12)) (both-same (ltb n (length es)) (λ t. e (ltb-true n (length es) t)))
   applied-alike (plain rule) hs hs′ n g e = refl
   applied-alike unknown hs hs′ n g e = refl
 
-  step-alike : (limit w : ℕ) {o o′ : Obligation} → Alike o o′ → step speaks es limit w o ≡ step speaks es limit w o′
+  step-alike : (limit w : ℕ) {o o′ : Obligation} → AsNamed es o o′ → step speaks es limit w o ≡ step speaks es limit w o′
   unfolding step opens
   step-alike limit w {o} {o′} a =
       let rule = getD (rules speaks es) (upper w) unknown in
       let n = lower w in
-      rw (a .same-depth, a .same-goal, applied-alike rule (o .hypotheses) (o′ .hypotheses) n (o′ .goal) (held-alike a n))
+      rw (
+        a .same-depth,
+        a .same-goal,
+        applied-alike rule (o .hypotheses) (o′ .hypotheses) n (o′ .goal) (λ l. a .same-named n l (omega arith)),
+      )
 
 -- ---- a walk of obligations that are alike
 
 -- Premises of alike obligations are alike: the same is added to both.
-added-to : {l m : List ℕ} (n : List ℕ) → l ⊆ m → l ++ n ⊆ m ++ n
-added-to {l} {m} n s = ⊆-append l (⊆-trans s (⊆-left n)) (⊆-right m)
+holds-added : (hs hs′ ns : List ℕ) (n : ℕ) → holds hs n ≡ holds hs′ n → holds (hs ++ ns) n ≡ holds (hs′ ++ ns) n
+holds-added hs hs′ ns n e = rw (holds-append hs ns n, holds-append hs′ ns n, e)
 
-under-alike : {o o′ : Obligation} → Alike o o′ → (p : Premise) → Alike (under o p) (under o′ p)
-under-alike a p = record {
-  same-goal = refl;
-  same-depth = ap suc (a .same-depth);
-  same-set = λ n. (added-to (added (p .added)) (λ m. a .same-set m .0) n, added-to (added (p .added)) (λ m. a .same-set m .1) n);
-}
+module _ {es : List Entry} where
+  under-alike : {o o′ : Obligation} → AsNamed es o o′ → (p : Premise) → AsNamed es (under o p) (under o′ p)
+  under-alike {o} {o′} a p = record {
+    same-goal = refl;
+    same-depth = ap suc (a .same-depth);
+    same-named = λ n l m. holds-added (o .hypotheses) (o′ .hypotheses) (added (p .added)) n (a .same-named n l m);
+  }
 
--- What is open after a step is alike, one by one.
-open-alike : {o o′ : Obligation} → Alike o o′ → (ps : List Premise) {os os′ : List Obligation}
-    → Forall₂ Alike os os′ → Forall₂ Alike (map (under o) ps ++ os) (map (under o′) ps ++ os′)
-open-alike a [] l = l
-open-alike a (p ∷ ps) l = Forall₂·cons (under-alike a p) (open-alike a ps l)
+  -- What is open after a step is alike, one by one.
+  open-alike : {o o′ : Obligation} → AsNamed es o o′ → (ps : List Premise) {os os′ : List Obligation}
+      → Forall₂ (AsNamed es) os os′ → Forall₂ (AsNamed es) (map (under o) ps ++ os) (map (under o′) ps ++ os′)
+  open-alike a [] l = l
+  open-alike a (p ∷ ps) l = Forall₂·cons (under-alike a p) (open-alike a ps l)
 
 module _ (speaks : ℕ → ℕ → Bool) (limit : ℕ) (es : List Entry) where
   walk-alike : (ws : List ℕ) (p : ℕ) (os os′ : List Obligation)
-      → Forall₂ Alike os os′ → walk speaks limit es ws p os ≡ walk speaks limit es ws p os′
+      → Forall₂ (AsNamed es) os os′ → walk speaks limit es ws p os ≡ walk speaks limit es ws p os′
   unfolding walk
   walk-alike [] p _ _ Forall₂·nil = refl
   walk-alike [] p _ _ (Forall₂·cons a l) = refl
@@ -92,9 +115,14 @@ module _ (speaks : ℕ → ℕ → Bool) (limit : ℕ) (es : List Entry) where
       (ap (after (step speaks es limit w o′) (refusedAt p))
       (fun-ext (λ ps. walk-alike ws (suc p) (map (under o) ps ++ os) (map (under o′) ps ++ os′) (open-alike a ps l))))
 
+  -- So the walk for one goal is the same from hypotheses that are the same as far as a step can name them.
+  pub walk-named : (ws : List ℕ) (p : ℕ) {o o′ : Obligation} → AsNamed es o o′
+      → walk speaks limit es ws p (o ∷ []) ≡ walk speaks limit es ws p (o′ ∷ [])
+  walk-named ws p {o} {o′} a = walk-alike ws p (o ∷ []) (o′ ∷ []) (Forall₂·cons a Forall₂·nil)
+
   pub hypotheses-are-a-set : HypothesesAreASet speaks limit es
   unfolding run
-  hypotheses-are-a-set o o′ a ws = ap (allUsed (length ws)) (walk-alike ws 0 (o ∷ []) (o′ ∷ []) (Forall₂·cons a Forall₂·nil))
+  hypotheses-are-a-set o o′ a ws = ap (allUsed (length ws)) (walk-named ws 0 (alike-named es a))
 
 -- ---- the number of a step's refusal
 

@@ -1,5 +1,5 @@
--- Laws for the functions' proofs: of rules that lead from one kind of goal to the other, of the walk, and of
--- many goals.
-pub mod Crossing
+-- The laws that the proofs of the walk's functions cite. Assumes nothing.
+pub mod Affirmations
 pub mod Walks
+pub mod Held
 pub mod Many

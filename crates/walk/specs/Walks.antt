@@ -1,20 +1,22 @@
--- What the walk of the code stands for: an obligation of the machine, with hypotheses that the slots hold. Assumes
+-- What the walk of the code stands for: an obligation of the machine, with the hypotheses that the slots show. Assumes
 -- nothing.
 use Prim.Native.Nat.{ℕ, _+_, _<_}
-use mathlib.Core.Bool.{Bool}
+use mathlib.Core.Bool.{false}
 use mathlib.Core.Path.{_≡_}
 use mathlib.Core.List.{List, [], _∷_}
-use Rattle.basics.specs.Limits.{mostDepth}
+use lib.ListN.{length}
+use Rattle.basics.specs.Limits.{mostDepth, mostFormulas}
+use Rattle.basics.specs.Membership.{holds}
 use Rattle.table.specs.declared.entry.Entry.{Entry}
 use Rattle.steps.specs.declared.goal.Goal.{Goal}
 use Rattle.steps.specs.declared.goal.Goal.the-variants.{True, Affirms}
-use Rattle.steps.specs.declared.opened.Premise.{Premise}
 use Rattle.steps.specs.declared.verdict.WalkVerdict.{WalkVerdict}
 use Rattle.steps.specs.declared.verdict.WalkVerdict.the-variants as Verdicts
-use Rattle.steps.specs.Obligation.{Obligation, under}
+use Rattle.steps.specs.Obligation.{Obligation}
 use Rattle.steps.specs.Figure1.{same}
 use Rattle.steps.specs.Parts.{walkFrom}
-use Rattle.hypotheses.specs.Slots.{Held}
+use Rattle.hypotheses.specs.Slots.{half, shown}
+use Rattle.hypotheses.specs.Trail.{Kept, Live}
 use Rattle.walk.specs.declared.walk.Walk.{Walk}
 use Rattle.walk.specs.declared.walk.Walked.{Walked}
 use Rattle.walk.specs.declared.walk.Walked.the-variants.{Done, Refused}
@@ -27,44 +29,49 @@ abbrev pub IsAffirmation : Goal → Type 0
 IsAffirmation (True f) = ⊥
 IsAffirmation (Affirms k f) = Unit
 
--- the same walk at another word
-abbrev pub at : Walk → ℕ → Walk
-at w next = record { goal = w .goal; next = next; depth = w .depth; held = w .held }
+-- the walk of a premise that begins at a word: one deeper, with so many hypotheses
+abbrev pub onward : Walk → Goal → ℕ → ℕ → Walk
+onward w g next held = record { goal = g; next = next; depth = w .depth + 1; held = held }
 
--- the walk of a premise: one deeper, with more hypotheses
-abbrev pub below : Walk → Goal → ℕ → ℕ → Walk
-below w g more next = record { goal = g; next = next; depth = w .depth + 1; held = w .held + more }
+-- what a walk has to prove, with the hypotheses that the slots show
+abbrev pub obligationOf : Walk → List ℕ → Obligation
+obligationOf w slots = record { hypotheses = shown slots; goal = w .goal; depth = w .depth }
 
--- what a premise's walk comes to, for the walk of its conclusion
-abbrev pub back : Walk → Walked → Walked
-back w (Done v) = Done (at w (v .next))
-back w (Refused number place) = Refused number place
+-- the machine's run from a walk's word on
+abbrev pub runFrom : List Entry → List ℕ → List ℕ → Walk → WalkVerdict
+runFrom es steps slots w = walkFrom same mostDepth es steps (w .next) (obligationOf w slots ∷ [])
 
--- what a walk has to prove
-abbrev pub obligationAt : Walk → List ℕ → Obligation
-obligationAt w hypotheses = record { hypotheses = hypotheses; goal = w .goal; depth = w .depth }
+-- what a walk comes to, as the machine's verdict
+abbrev pub verdictOf : Walked → WalkVerdict
+verdictOf (Done v) = Verdicts.Closed (v .next)
+verdictOf (Refused number place) = Verdicts.Refused number place
 
--- a verdict of the machine, for a walk
-abbrev pub outcome : Walk → WalkVerdict → Walked
-outcome w (Verdicts.Closed q) = Done (at w q)
-outcome w (Verdicts.Refused number place) = Refused number place
+-- The slots have a mark for each number that a step can name,
+abbrev pub Marks : List Entry → List ℕ → Type 0
+Marks es slots = (n : ℕ) → n < length es → n < mostFormulas → n < half slots
 
--- a walk that is done stands past the word next
-abbrev pub Forward : ℕ → Walked → Type 0
-Forward next (Done v) = next < v .next
-Forward next (Refused number place) = Unit
+-- and a place for each hypothesis.
+pub record Ready (es : List Entry) (slots : List ℕ) (held : ℕ) : Type 0 where
+  pub marks : Marks es slots
+  pub live : Live slots held
 
--- The answer r is the machine's, for walk w and the obligation o from word next on, whatever hypotheses the slots hold.
--- (Slots that hold no list of w's count leave r free. `check_goal` is called with slots that hold the statements, so
--- its contract has no such case.)
-pub record Answers (es : List Entry) (steps : List ℕ) (slots : List Bool) (w : Walk) (next : ℕ) (o : List ℕ → Obligation) (r : Walked) : Type 0 where
-  pub answer : (hypotheses : List ℕ) → Held hypotheses slots (w .held)
-      → r ≡ outcome w (walkFrom same mostDepth es steps next (o hypotheses ∷ []))
-  pub forward : Forward next r
+-- A walk that is done hands back its depth and its count of hypotheses, and what it held is taken back. Free is the
+-- goal that it hands back, which is that of its last step, and the places past the count; after a refusal all of the
+-- slots.
+abbrev pub Left : Walk → List ℕ → Walked → List ℕ → Type 0
+Left w slots (Done v) after = (v .depth ≡ w .depth) × (v .held ≡ w .held) × Kept (w .held) slots after
+Left w slots (Refused number place) after = Unit
 
--- what a walk's own goal comes to, and a premise of it from word next on
-abbrev pub AnswersGoal : List Entry → List ℕ → List Bool → Walk → Walked → Type 0
-AnswersGoal es steps slots w r = Answers es steps slots w (w .next) (obligationAt w) r
+-- The slots show the statements, as far as a step can name them, and are ready for a walk.
+pub record Holding (es : List Entry) (statements slots : List ℕ) (held : ℕ) : Type 0 where
+  pub ready : Ready es slots held
+  pub shows : (n : ℕ) → n < length es → n < mostFormulas → holds (shown slots) n ≡ holds statements n
 
-abbrev pub AnswersPremise : List Entry → List ℕ → List Bool → Walk → Premise → ℕ → Walked → Type 0
-AnswersPremise es steps slots w p next r = Answers es steps slots w next (λ hypotheses. under (obligationAt w hypotheses) p) r
+-- A proof that is closed leaves the hypotheses as they were held. After a refusal the slots are free.
+abbrev pub LeftHeld : List ℕ → ℕ → WalkVerdict → List ℕ → Type 0
+LeftHeld slots held (Verdicts.Closed q) after = Kept held slots after
+LeftHeld slots held (Verdicts.Refused number place) after = Unit
+
+-- nothing is held yet
+abbrev pub Empty : List ℕ → Type 0
+Empty slots = (n : ℕ) → holds (shown slots) n ≡ false

@@ -1,18 +1,17 @@
 // The walk: "The state of the walk is handed on from step to step: next word, depth, hypotheses held." (01) One
-// function checks a truth, one an affirmation; they call each other at rules 10, 1 and 3, and the words that are left
-// fall.
+// function checks a truth, one an affirmation. Each goes on with a rule's last premise in its loop, and calls itself or
+// the other for a first premise and at rules 10, 1 and 3, always, while the words that are left fall.
 ghost use mathlib.Core.Path.{_≡_};
-ghost use Prim.Native.Nat.{_+_, _*_, _-_, _<_, _^_};
-ghost use lib.ListN.{length};
+ghost use Prim.Native.Nat.{_+_, _<_, _^_};
 ghost use Rattle.table.specs.Tests.{entries};
+ghost use Rattle.hypotheses.specs.Slots.{released};
 ghost use Rattle.walk.specs.Walks as Walks;
-use hypotheses::hypotheses::added_count;
-use hypotheses::hypotheses::hold_added;
-use hypotheses::hypotheses::release_added;
-use rules::step::open;
+use hypotheses::hypotheses::hold;
+use hypotheses::hypotheses::release;
+use rules::premises::Premises;
+use rules::step::open_affirmation;
+use rules::step::open_truth;
 use steps::goal::Goal;
-use steps::opened::Opened;
-use steps::opened::Premise;
 
 // The goal, the place of the next word, the depth of its step, and the count of hypotheses held.
 pub(crate) struct Walk {
@@ -29,192 +28,243 @@ pub(crate) enum Walked {
 }
 
 impl Walk {
-    // The same walk at another word.
-    fn at(self, next: usize) -> Walk
-        ensures { λ r. ⌜ r ≡ Walks.at self next ⌝ }
-    {
-        let goal = self.goal;
-        Walk {
-            goal,
-            next,
-            depth: self.depth,
-            held: self.held,
-        }
-    }
-
-    // The walk of a premise that begins at a word: one deeper, with so many hypotheses more.
-    fn below(self, goal: Goal, more: usize, next: usize) -> Walk
-        requires { ⌜ self .depth + self .held + more + 1 < 2 ^ 64 ⌝ }
-        ensures { λ r. ⌜ r ≡ Walks.below self goal more next ⌝ }
+    // The walk of a premise that begins at a word: one deeper, with so many hypotheses.
+    fn onward(self, goal: Goal, next: usize, held: usize) -> Walk
+        requires { ⌜ self .depth + 1 < 2 ^ 64 ⌝ }
+        ensures { λ r. ⌜ r ≡ Walks.onward self goal next held ⌝ }
     {
         Walk {
             goal,
             next,
             depth: self.depth + 1,
-            held: self.held + more,
+            held,
         }
     }
 
-    // What a premise's walk comes to, for the walk of its conclusion.
-    fn back(self, walked: Walked) -> Walked
-        ensures { λ r. ⌜ r ≡ Walks.back self walked ⌝ }
+    // A refusal at the walk's word.
+    fn refused(self, number: u8) -> Walked
+        ensures { λ r. ⌜ r ≡ Walked.Refused number (self .next) ⌝ }
     {
-        match walked {
-            Walked::Done(walk) => {
-                let next = walk.next;
-                Walked::Done(self.at(next))
-            }
-            Walked::Refused { number, place } => Walked::Refused { number, place },
+        Walked::Refused {
+            number,
+            place: self.next,
         }
     }
 
-    // Checks a truth. The depth and the count of hypotheses have room for the words that are left.
+    // The walk once its goal is proved up to a word: what was held since the count `held` is taken back.
+    fn proved(self, slots: &mut [u16], next: usize, depth: usize, held: usize) -> Walked
+        ensures { λ r. ⌜ r ≡ Walked.Done (record { goal = self .goal; next = next; depth = depth; held = held }) ⌝ }
+        ensures { λ _. ⌜ now (slots .exit) ≡ released (now (slots .entry)) held (self .held) ⌝ }
+    {
+        release(slots, held, self.held);
+        let goal = self.goal;
+        Walked::Done(Walk {
+            goal,
+            next,
+            depth,
+            held,
+        })
+    }
+
+    // Checks a truth. What is lent to the calls is a copy of what the loop reads, so that the loop has it at hand.
     pub(crate) fn truth(
         self,
         heads: &[u16],
         seconds: &[u16],
         steps: &[u16],
-        slots: &mut [bool],
+        slots: &mut [u16],
     ) -> Walked
         requires { ⌜ Walks.IsTruth (self .goal) ⌝ }
-        requires { ⌜ self .depth + self .held + 3 * (length (now steps) - self .next) < 2 ^ 64 ⌝ }
-        ensures { λ r. ⌜ Walks.AnswersGoal (entries (now (heads .entry)) (now (seconds .entry))) (now (steps .entry)) (now (slots .entry)) self r ⌝ }
-        ensures { λ r. ⌜ now (slots .exit) ≡ now (slots .entry) ⌝ }
+        requires { ⌜ Walks.Ready (entries (now heads) (now seconds)) (now slots) (self .held) ⌝ }
+        ensures { λ r. ⌜ Walks.verdictOf r ≡ Walks.runFrom (entries (now (heads .entry)) (now (seconds .entry))) (now (steps .entry)) (now (slots .entry)) self ⌝ }
+        ensures { λ r. ⌜ Walks.Left self (now (slots .entry)) r (now (slots .exit)) ⌝ }
     {
-        let next = self.next;
-        if steps.len() <= next {
-            return Walked::Refused {
-                number: 9,
-                place: next,
-            };
-        }
-        let goal = self.goal;
-        match open(heads, seconds, slots, self.depth, goal, steps[next]) {
-            Opened::Refused(number) => Walked::Refused {
-                number,
-                place: next,
-            },
-            Opened::Closed => Walked::Done(self.at(next + 1)),
-            Opened::One(premise) => {
-                let towards = premise.goal;
-                match towards {
-                    Goal::True(_) => self.adding(premise, next + 1, heads, seconds, steps, slots),
-                    // Rule 10: an affirmation, and nothing is added.
-                    Goal::Affirms(_, _) => {
-                        let premise_walk = self.below(towards, 0, next + 1);
-                        self.back(premise_walk.affirmation(heads, seconds, steps, slots))
-                    }
-                }
-            }
-            Opened::Two(first, second) => {
-                let walked = self.adding(first, next + 1, heads, seconds, steps, slots);
-                match walked {
-                    Walked::Done(walk) => {
-                        let at = walk.next;
-                        self.adding(second, at, heads, seconds, steps, slots)
-                    }
-                    Walked::Refused { number, place } => Walked::Refused { number, place },
-                }
-            }
-        }
-    }
-
-    // Checks an affirmation, with the same room.
-    fn affirmation(
-        self,
-        heads: &[u16],
-        seconds: &[u16],
-        steps: &[u16],
-        slots: &mut [bool],
-    ) -> Walked
-        requires { ⌜ Walks.IsAffirmation (self .goal) ⌝ }
-        requires { ⌜ self .depth + self .held + 3 * (length (now steps) - self .next) < 2 ^ 64 ⌝ }
-        ensures { λ r. ⌜ Walks.AnswersGoal (entries (now (heads .entry)) (now (seconds .entry))) (now (steps .entry)) (now (slots .entry)) self r ⌝ }
-        ensures { λ r. ⌜ now (slots .exit) ≡ now (slots .entry) ⌝ }
-    {
-        let next = self.next;
-        if steps.len() <= next {
-            return Walked::Refused {
-                number: 9,
-                place: next,
-            };
-        }
-        let goal = self.goal;
-        match open(heads, seconds, slots, self.depth, goal, steps[next]) {
-            Opened::Refused(number) => Walked::Refused {
-                number,
-                place: next,
-            },
-            Opened::Closed => Walked::Done(self.at(next + 1)),
-            Opened::One(premise) => {
-                let towards = premise.goal;
-                match towards {
-                    Goal::Affirms(_, _) => self.adding(
-                        premise,
-                        next + 1,
-                        heads,
-                        seconds,
-                        steps,
-                        slots,
-                    ),
-                    // Rule 1: a truth, and nothing is added.
-                    Goal::True(_) => {
-                        let premise_walk = self.below(towards, 0, next + 1);
-                        self.back(premise_walk.truth(heads, seconds, steps, slots))
-                    }
-                }
-            }
-            Opened::Two(first, second) => {
-                let towards = first.goal;
-                let walked = match towards {
-                    Goal::Affirms(_, _) => self.adding(
-                        first,
-                        next + 1,
-                        heads,
-                        seconds,
-                        steps,
-                        slots,
-                    ),
-                    // Rule 3: the first premise is always a truth, and nothing is added.
-                    Goal::True(_) => {
-                        let premise_walk = self.below(towards, 0, next + 1);
-                        self.back(premise_walk.truth(heads, seconds, steps, slots))
-                    }
-                };
-                match walked {
-                    Walked::Done(walk) => {
-                        let at = walk.next;
-                        self.adding(second, at, heads, seconds, steps, slots)
-                    }
-                    Walked::Refused { number, place } => Walked::Refused { number, place },
-                }
-            }
-        }
-    }
-
-    // Checks a premise that begins at a word: adds its hypotheses, and takes them back.
-    fn adding(
-        self,
-        premise: Premise,
-        next: usize,
-        heads: &[u16],
-        seconds: &[u16],
-        steps: &[u16],
-        slots: &mut [bool],
-    ) -> Walked
-        requires { ⌜ self .depth + self .held + 3 + 3 * (length (now steps) - next) < 2 ^ 64 ⌝ }
-        ensures { λ r. ⌜ Walks.AnswersPremise (entries (now (heads .entry)) (now (seconds .entry))) (now (steps .entry)) (now (slots .entry)) self premise next r ⌝ }
-        ensures { λ r. ⌜ now (slots .exit) ≡ now (slots .entry) ⌝ }
-    {
-        let goal = premise.goal;
-        let added = premise.added;
-        let walk = self.below(goal, added_count(added), next);
-        let saved = hold_added(slots, added);
-        let walked = match goal {
-            Goal::True(_) => walk.truth(heads, seconds, steps, slots),
-            Goal::Affirms(_, _) => walk.affirmation(heads, seconds, steps, slots),
+        let lent_heads = heads;
+        let lent_seconds = seconds;
+        let lent_steps = steps;
+        let start = self.goal;
+        let Goal::True(given) = start else {
+            return self.refused(13);
         };
-        release_added(slots, added, saved);
-        self.back(walked)
+        let mut f = given;
+        let mut walk = Walk {
+            goal: Goal::True(f),
+            next: self.next,
+            depth: self.depth,
+            held: self.held,
+        };
+        loop {
+            let next = walk.next;
+            let held = walk.held;
+            if steps.len() <= next {
+                return walk.refused(9);
+            }
+            match open_truth(heads, seconds, slots, walk.depth, f, steps[next]) {
+                Premises::Refused(number) => {
+                    return walk.refused(number);
+                }
+                Premises::Closed => {
+                    return walk.proved(slots, next + 1, self.depth, self.held);
+                }
+                Premises::Truth(a) => {
+                    f = a;
+                    walk = walk.onward(Goal::True(a), next + 1, held);
+                }
+                Premises::TruthWith(b, a) => {
+                    let more = hold(slots, held, a);
+                    f = b;
+                    walk = walk.onward(Goal::True(b), next + 1, more);
+                }
+                Premises::With(a) => {
+                    let more = hold(slots, held, a);
+                    walk = walk.onward(Goal::True(f), next + 1, more);
+                }
+                Premises::WithBoth(a, b) => {
+                    let one = hold(slots, held, a);
+                    let more = hold(slots, one, b);
+                    walk = walk.onward(Goal::True(f), next + 1, more);
+                }
+                Premises::TruthThenWith(a, b) => {
+                    let premise = walk.onward(Goal::True(a), next + 1, held);
+                    match premise.truth(lent_heads, lent_seconds, lent_steps, slots) {
+                        Walked::Refused { number, place } => {
+                            return Walked::Refused { number, place };
+                        }
+                        Walked::Done(after) => {
+                            let more = hold(slots, held, b);
+                            walk = walk.onward(Goal::True(f), after.next, more);
+                        }
+                    }
+                }
+                Premises::BothTruths(a, b) => {
+                    let premise = walk.onward(Goal::True(a), next + 1, held);
+                    match premise.truth(lent_heads, lent_seconds, lent_steps, slots) {
+                        Walked::Refused { number, place } => {
+                            return Walked::Refused { number, place };
+                        }
+                        Walked::Done(after) => {
+                            f = b;
+                            walk = walk.onward(Goal::True(b), after.next, held);
+                        }
+                    }
+                }
+                Premises::WithEither(a, b) => {
+                    let one = hold(slots, held, a);
+                    let premise = walk.onward(Goal::True(f), next + 1, one);
+                    match premise.truth(lent_heads, lent_seconds, lent_steps, slots) {
+                        Walked::Refused { number, place } => {
+                            return Walked::Refused { number, place };
+                        }
+                        Walked::Done(after) => {
+                            release(slots, held, one);
+                            let more = hold(slots, held, b);
+                            walk = walk.onward(Goal::True(f), after.next, more);
+                        }
+                    }
+                }
+                // Rule 10.
+                Premises::Affirmation(k, a) => {
+                    let premise = walk.onward(Goal::Affirms(k, a), next + 1, held);
+                    match premise.affirmation(lent_heads, lent_seconds, lent_steps, slots) {
+                        Walked::Refused { number, place } => {
+                            return Walked::Refused { number, place };
+                        }
+                        Walked::Done(after) => {
+                            return walk.proved(slots, after.next, self.depth, self.held);
+                        }
+                    }
+                }
+            }
+        }
+    }
+
+    // Checks an affirmation. Rules 2, 5 and 10 need a truth, so their shapes don't occur.
+    fn affirmation(self, heads: &[u16], seconds: &[u16], steps: &[u16], slots: &mut [u16]) -> Walked
+        requires { ⌜ Walks.IsAffirmation (self .goal) ⌝ }
+        requires { ⌜ Walks.Ready (entries (now heads) (now seconds)) (now slots) (self .held) ⌝ }
+        ensures { λ r. ⌜ Walks.verdictOf r ≡ Walks.runFrom (entries (now (heads .entry)) (now (seconds .entry))) (now (steps .entry)) (now (slots .entry)) self ⌝ }
+        ensures { λ r. ⌜ Walks.Left self (now (slots .entry)) r (now (slots .exit)) ⌝ }
+    {
+        let lent_heads = heads;
+        let lent_seconds = seconds;
+        let lent_steps = steps;
+        let start = self.goal;
+        let Goal::Affirms(k, f) = start else {
+            return self.refused(13);
+        };
+        let mut walk = Walk {
+            goal: Goal::Affirms(k, f),
+            next: self.next,
+            depth: self.depth,
+            held: self.held,
+        };
+        loop {
+            let next = walk.next;
+            let held = walk.held;
+            if steps.len() <= next {
+                return walk.refused(9);
+            }
+            match open_affirmation(heads, seconds, slots, walk.depth, k, f, steps[next]) {
+                Premises::Refused(number) => {
+                    return walk.refused(number);
+                }
+                Premises::Closed => {
+                    return walk.proved(slots, next + 1, self.depth, self.held);
+                }
+                // Rule 1.
+                Premises::Truth(a) => {
+                    let premise = walk.onward(Goal::True(a), next + 1, held);
+                    match premise.truth(lent_heads, lent_seconds, lent_steps, slots) {
+                        Walked::Refused { number, place } => {
+                            return Walked::Refused { number, place };
+                        }
+                        Walked::Done(after) => {
+                            return walk.proved(slots, after.next, self.depth, self.held);
+                        }
+                    }
+                }
+                Premises::With(a) => {
+                    let more = hold(slots, held, a);
+                    walk = walk.onward(Goal::Affirms(k, f), next + 1, more);
+                }
+                Premises::WithBoth(a, b) => {
+                    let one = hold(slots, held, a);
+                    let more = hold(slots, one, b);
+                    walk = walk.onward(Goal::Affirms(k, f), next + 1, more);
+                }
+                // Rule 3: the first premise is always a truth.
+                Premises::TruthThenWith(a, b) => {
+                    let premise = walk.onward(Goal::True(a), next + 1, held);
+                    match premise.truth(lent_heads, lent_seconds, lent_steps, slots) {
+                        Walked::Refused { number, place } => {
+                            return Walked::Refused { number, place };
+                        }
+                        Walked::Done(after) => {
+                            let more = hold(slots, held, b);
+                            walk = walk.onward(Goal::Affirms(k, f), after.next, more);
+                        }
+                    }
+                }
+                Premises::WithEither(a, b) => {
+                    let first = hold(slots, held, a);
+                    let premise = walk.onward(Goal::Affirms(k, f), next + 1, first);
+                    match premise.affirmation(lent_heads, lent_seconds, lent_steps, slots) {
+                        Walked::Refused { number, place } => {
+                            return Walked::Refused { number, place };
+                        }
+                        Walked::Done(after) => {
+                            release(slots, held, first);
+                            let more = hold(slots, held, b);
+                            walk = walk.onward(Goal::Affirms(k, f), after.next, more);
+                        }
+                    }
+                }
+                Premises::TruthWith(_, _)
+                | Premises::BothTruths(_, _)
+                | Premises::Affirmation(_, _) => {
+                    return walk.refused(13);
+                }
+            }
+        }
     }
 }

@@ -6,13 +6,13 @@ use Rattle.rules.proofs.rules.and_left.Statement.{statement}
 use Rattle.rules.proofs.rules.and_left.Tie as tie
 
 returns : tie.Need-returns
-returns c = not-and (c .before .entry-at .ensures) _ (c .match .keys2)
+returns c g = not-and (c .before .entry-at .ensures) _ (c .match .keys2)
 
 returns-2 : tie.Need-returns-2
-returns-2 c =
-    let entry-is = c .before .before .before .before .entry-at .ensures in
-    let kind-is = c .before .before .a .given .1 in
-    rw (← entry-is, kind-is, c .adding-both .ensures)
+returns-2 c g =
+    let entry-is = c .before .before .before .entry-at .ensures in
+    let kind-is = c .before .a .given .1 in
+    rw (← entry-is, kind-is)
 
 pub and-left-spec : {M : Type 1} → statement M
-and-left-spec = tie.close (tie.spec (λ c κs. tt) (λ c. search needs) returns (λ c κs. tt) returns-2)
+and-left-spec = tie.close (tie.spec (λ c κs. tt) (λ c. search needs) returns returns-2)

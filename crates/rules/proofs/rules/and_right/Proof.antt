@@ -10,13 +10,13 @@ returns-2 c = rw (c .before .before .before .goal .given .1) (not-and (c .before
 
 returns-3 : tie.Need-returns-3
 returns-3 c =
-    let goal-is = c .before .before .before .before .before .before .before .goal .given .1 in
-    let entry-is = c .before .before .before .before .before .entry-at .ensures in
-    let kind-is = c .before .before .before .a .given .1 in
-    rw (goal-is, ← entry-is, kind-is, c .before .alone .ensures, c .alone2 .ensures)
+    let goal-is = c .before .before .before .before .before .goal .given .1 in
+    let entry-is = c .before .before .before .entry-at .ensures in
+    let kind-is = c .before .a .given .1 in
+    rw (goal-is, ← entry-is, kind-is)
 
 pub and-right-spec : {M : Type 1} → statement M
 and-right-spec =
     tie.close
-    (tie.spec (λ c. search needs) (λ c. search needs) (λ c. search needs) (λ c κs. tt) (λ c. search needs) returns-2 (λ c κs. tt)
-    (λ c κs. tt) returns-3)
+    (tie.spec (λ c. search needs) (λ c. search needs) (λ c. search needs) (λ c κs. tt) (λ c. search needs) returns-2
+    returns-3)

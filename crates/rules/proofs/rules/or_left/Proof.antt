@@ -6,13 +6,13 @@ use Rattle.rules.proofs.rules.or_left.Statement.{statement}
 use Rattle.rules.proofs.rules.or_left.Tie as tie
 
 returns : tie.Need-returns
-returns c = not-or (c .before .entry-at .ensures) _ (c .match .keys2)
+returns c g = not-or (c .before .entry-at .ensures) _ (c .match .keys2)
 
 returns-2 : tie.Need-returns-2
-returns-2 c =
-    let entry-is = c .before .before .before .before .before .entry-at .ensures in
-    let kind-is = c .before .before .before .a .given .1 in
-    rw (← entry-is, kind-is, c .before .adding .ensures, c .adding2 .ensures)
+returns-2 c g =
+    let entry-is = c .before .before .before .entry-at .ensures in
+    let kind-is = c .before .a .given .1 in
+    rw (← entry-is, kind-is)
 
 pub or-left-spec : {M : Type 1} → statement M
-or-left-spec = tie.close (tie.spec (λ c κs. tt) (λ c. search needs) returns (λ c κs. tt) (λ c κs. tt) returns-2)
+or-left-spec = tie.close (tie.spec (λ c κs. tt) (λ c. search needs) returns returns-2)

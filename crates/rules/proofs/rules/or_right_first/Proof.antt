@@ -10,13 +10,13 @@ returns-2 c = rw (c .before .before .before .goal .given .1) (not-or (c .before 
 
 returns-3 : tie.Need-returns-3
 returns-3 c =
-    let goal-is = c .before .before .before .before .before .before .goal .given .1 in
-    let entry-is = c .before .before .before .before .entry-at .ensures in
-    let kind-is = c .before .before .a .given .1 in
-    rw (goal-is, ← entry-is, kind-is, c .alone .ensures)
+    let goal-is = c .before .before .before .before .before .goal .given .1 in
+    let entry-is = c .before .before .before .entry-at .ensures in
+    let kind-is = c .before .a .given .1 in
+    rw (goal-is, ← entry-is, kind-is)
 
 pub or-right-first-spec : {M : Type 1} → statement M
 or-right-first-spec =
     tie.close
-    (tie.spec (λ c. search needs) (λ c. search needs) (λ c. search needs) (λ c κs. tt) (λ c. search needs) returns-2 (λ c κs. tt)
+    (tie.spec (λ c. search needs) (λ c. search needs) (λ c. search needs) (λ c κs. tt) (λ c. search needs) returns-2
     returns-3)

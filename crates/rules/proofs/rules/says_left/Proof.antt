@@ -16,11 +16,11 @@ returns-2 c =
 
 returns-3 : tie.Need-returns-3
 returns-3 c =
-    let entry-is = c .before .before .before .before .before .before .before .before .before .entry-at .ensures in
-    let kind-is = c .before .before .before .before .before .before .before .k .given .1 in
-    let goal-is = c .before .before .before .before .goal .given .1 in
-    let test-is = c .before .before .speaks-for .ensures in
-    rw (← entry-is, kind-is, goal-is, ← test-is, c .before .if1 .taken, c .adding .ensures)
+    let entry-is = c .before .before .before .before .before .before .before .before .entry-at .ensures in
+    let kind-is = c .before .before .before .before .before .before .k .given .1 in
+    let goal-is = c .before .before .before .goal .given .1 in
+    let test-is = c .before .speaks-for .ensures in
+    rw (← entry-is, kind-is, goal-is, ← test-is, c .if1 .taken)
 
 returns-4 : tie.Need-returns-4
 returns-4 c =
@@ -33,5 +33,5 @@ returns-4 c =
 pub says-left-spec : {M : Type 1} → statement M
 says-left-spec =
     tie.close
-    (tie.spec (λ c κs. tt) (λ c. search needs) returns (λ c. search needs) (λ c. search needs) returns-2 (λ c κs. tt) (λ c κs. tt)
+    (tie.spec (λ c κs. tt) (λ c. search needs) returns (λ c. search needs) (λ c. search needs) returns-2 (λ c κs. tt)
     returns-3 returns-4)

@@ -1,4 +1,4 @@
--- `check_goals` meets its contract. The loop's invariant: the slots are as they were, and the verdict on all goals is
+-- `check_goals` meets its contract. The loop's invariant: the slots hold the statements, and the verdict on all goals is
 -- that on the goals from position i on, from the word `at` on. Assumes nothing.
 use Prim.Native.Nat.{_≤_, _-_}
 use native.Mathlib.Omega.{arith}
@@ -7,6 +7,8 @@ use lib.ListN.{length}
 use borrow.Author.Needs.{needs}
 use Rattle.table.specs.Tests.{entries}
 use Rattle.steps.specs.Answer.{proofsAnswer}
+use Rattle.walk.specs.Walks.{Holding}
+use Rattle.walk.proofs.Held.{holding-kept}
 use Rattle.walk.proofs.Many.{Checked, verdictFrom, goals-end, goal-closed, goal-refused, closed-inside, refused-inside}
 use Rattle.walk.proofs.check.check_goals.Statement.{statement}
 use Rattle.walk.proofs.check.check_goals.Tie as tie
@@ -15,21 +17,19 @@ use Rattle.walk.proofs.check.check_goals.Lts as lts
 use Rattle.walk.proofs.check.check_goal.Reads as check-goal-reads
 
 abbrev Inv-loop : tie.InvT-loop
-Inv-loop heads seconds statements slots₀ goals steps at₀ i₀ slots at i =
-    (at ≤ length steps) × (slots ≡ slots₀)
+Inv-loop heads seconds statements held slots₀ goals steps at₀ i₀ slots at i =
+    (at ≤ length steps) × (length slots ≡ length slots₀) × Holding (entries heads seconds) statements slots held
     × (proofsAnswer heads seconds statements goals steps ≡ verdictFrom (entries heads seconds) statements goals steps at i)
 
 abbrev μ-loop : tie.MeasureT-loop
-μ-loop heads seconds statements slots₀ goals steps at₀ i₀ slots at i = length goals - i
+μ-loop heads seconds statements held slots₀ goals steps at₀ i₀ slots at i = length goals - i
 
 loop-holds : tie.Need-loop-holds Inv-loop μ-loop
-loop-holds c = (omega arith, refl, refl)
+loop-holds c = (omega arith, refl, c .before .before .before .before .before .before .pre, refl)
 
 check-goal-requires : tie.Need-check-goal-requires Inv-loop μ-loop
 check-goal-requires c κs =
-    let l = c .before .before .before .before .loop in
-    let start = c .before .before .before .before .before .before .before .before .before .before .before in
-    rw (l .inv .1) (start .pre)
+    c .before .before .before .before .loop .inv .2
 
 -- the places where a goal is checked, and what the check of it answered
 abbrev Called : Type 0
@@ -62,13 +62,13 @@ add-place c =
 same-length : tie.Need-same-length Inv-loop μ-loop
 same-length c =
     let called = c .before .before .before .before .before in
-    ap length (called .check-goal .ensures .1 ∙ called .before .before .before .before .before .loop .inv .1)
+    called .check-goal .kept .1 .1 .1 .1 .0 ∙ called .before .before .before .before .before .loop .inv .1
 
 returns : tie.Need-returns Inv-loop μ-loop
 returns c =
     let called = c .before .before .before .before .before in
     let l = called .before .before .before .before .before .loop in
-    sym (l .inv .2 ∙ goal-refused (checked called) (c .before .number .given .1))
+    sym (l .inv .3 ∙ goal-refused (checked called) (c .before .number .given .1))
 
 loop-again : tie.Need-loop-again Inv-loop μ-loop
 loop-again c =
@@ -76,19 +76,20 @@ loop-again c =
     let l = called .before .before .before .before .before .loop in
     let closed = c .before .used .given .1 in (
       closed-inside (checked called) closed,
-      called .check-goal .ensures .1 ∙ l .inv .1,
-      l .inv .2 ∙ goal-closed (checked called) closed,
+      called .check-goal .kept .1 .1 .1 .1 .0 ∙ l .inv .1,
+      holding-kept (l .inv .2) (rw closed at (called .check-goal .ensures .1)),
+      l .inv .3 ∙ goal-closed (checked called) closed,
     )
 
 same-length-2 : tie.Need-same-length-2 Inv-loop μ-loop
-same-length-2 c = ap length (c .before .loop .inv .1)
+same-length-2 c = c .before .loop .inv .1
 
 returns-2 : tie.Need-returns-2 Inv-loop μ-loop
 returns-2 c =
     let l = c .before .loop in
     let a = c .before .before .before .before .before .before .before .before .args in
     let es = entries (a .heads .now) (a .seconds .now) in
-    sym (l .inv .2 ∙ goals-end es (a .statements .now) (a .goals .now) (a .steps .now) (l .at) (l .i) (c .loop-test .left))
+    sym (l .inv .3 ∙ goals-end es (a .statements .now) (a .goals .now) (a .steps .now) (l .at) (l .i) (c .loop-test .left))
 
 pub check-goals-spec : {M : Type 1} → statement M
 check-goals-spec =
