@@ -93,6 +93,8 @@ impl Walk {
             depth: self.depth,
             held: self.held,
         };
+        let mut premise = walk;
+        let mut walked = Walked::Done(walk);
         loop {
             let next = walk.next;
             let held = walk.held;
@@ -125,8 +127,9 @@ impl Walk {
                     walk = walk.onward(Goal::True(f), next + 1, more);
                 }
                 Premises::TruthThenWith(a, b) => {
-                    let premise = walk.onward(Goal::True(a), next + 1, held);
-                    match premise.truth(lent_heads, lent_seconds, lent_steps, slots) {
+                    premise = walk.onward(Goal::True(a), next + 1, held);
+                    walked = premise.truth(lent_heads, lent_seconds, lent_steps, slots);
+                    match walked {
                         Walked::Refused { number, place } => {
                             return Walked::Refused { number, place };
                         }
@@ -137,8 +140,9 @@ impl Walk {
                     }
                 }
                 Premises::BothTruths(a, b) => {
-                    let premise = walk.onward(Goal::True(a), next + 1, held);
-                    match premise.truth(lent_heads, lent_seconds, lent_steps, slots) {
+                    premise = walk.onward(Goal::True(a), next + 1, held);
+                    walked = premise.truth(lent_heads, lent_seconds, lent_steps, slots);
+                    match walked {
                         Walked::Refused { number, place } => {
                             return Walked::Refused { number, place };
                         }
@@ -150,8 +154,9 @@ impl Walk {
                 }
                 Premises::WithEither(a, b) => {
                     let one = hold(slots, held, a);
-                    let premise = walk.onward(Goal::True(f), next + 1, one);
-                    match premise.truth(lent_heads, lent_seconds, lent_steps, slots) {
+                    premise = walk.onward(Goal::True(f), next + 1, one);
+                    walked = premise.truth(lent_heads, lent_seconds, lent_steps, slots);
+                    match walked {
                         Walked::Refused { number, place } => {
                             return Walked::Refused { number, place };
                         }
@@ -164,8 +169,9 @@ impl Walk {
                 }
                 // Rule 10.
                 Premises::Affirmation(k, a) => {
-                    let premise = walk.onward(Goal::Affirms(k, a), next + 1, held);
-                    match premise.affirmation(lent_heads, lent_seconds, lent_steps, slots) {
+                    premise = walk.onward(Goal::Affirms(k, a), next + 1, held);
+                    walked = premise.affirmation(lent_heads, lent_seconds, lent_steps, slots);
+                    match walked {
                         Walked::Refused { number, place } => {
                             return Walked::Refused { number, place };
                         }
@@ -198,6 +204,8 @@ impl Walk {
             depth: self.depth,
             held: self.held,
         };
+        let mut premise = walk;
+        let mut walked = Walked::Done(walk);
         loop {
             let next = walk.next;
             let held = walk.held;
@@ -213,8 +221,9 @@ impl Walk {
                 }
                 // Rule 1.
                 Premises::Truth(a) => {
-                    let premise = walk.onward(Goal::True(a), next + 1, held);
-                    match premise.truth(lent_heads, lent_seconds, lent_steps, slots) {
+                    premise = walk.onward(Goal::True(a), next + 1, held);
+                    walked = premise.truth(lent_heads, lent_seconds, lent_steps, slots);
+                    match walked {
                         Walked::Refused { number, place } => {
                             return Walked::Refused { number, place };
                         }
@@ -234,8 +243,9 @@ impl Walk {
                 }
                 // Rule 3: the first premise is always a truth.
                 Premises::TruthThenWith(a, b) => {
-                    let premise = walk.onward(Goal::True(a), next + 1, held);
-                    match premise.truth(lent_heads, lent_seconds, lent_steps, slots) {
+                    premise = walk.onward(Goal::True(a), next + 1, held);
+                    walked = premise.truth(lent_heads, lent_seconds, lent_steps, slots);
+                    match walked {
                         Walked::Refused { number, place } => {
                             return Walked::Refused { number, place };
                         }
@@ -247,8 +257,9 @@ impl Walk {
                 }
                 Premises::WithEither(a, b) => {
                     let first = hold(slots, held, a);
-                    let premise = walk.onward(Goal::Affirms(k, f), next + 1, first);
-                    match premise.affirmation(lent_heads, lent_seconds, lent_steps, slots) {
+                    premise = walk.onward(Goal::Affirms(k, f), next + 1, first);
+                    walked = premise.affirmation(lent_heads, lent_seconds, lent_steps, slots);
+                    match walked {
                         Walked::Refused { number, place } => {
                             return Walked::Refused { number, place };
                         }

@@ -330,16 +330,16 @@ truth-returns-5 t c =
     let o = c .before .before .before .before .before .before .before .before .before .before .before in
     let l = o .before .before .before .before .loop in
     let on = l .inv .2 in
-    (first-refused on (truth-here t o) (truth-is t o (c .before .before .before .before .before .before .before .before .before .a4 .given .1)) (called-alone on (truth-here t o) (True (c .before .before .before .before .before .before .before .before .before .a4 .given .0 .0)) (c .before .before .before .before .before .before .before .onward5 .ensures) (c .before .before .before .before .before .truth .ensures .0)) (c .before .number2 .given .1), tt)
+    (first-refused on (truth-here t o) (truth-is t o (c .before .before .before .before .before .before .before .before .before .a4 .given .1)) (called-alone on (truth-here t o) (True (c .before .before .before .before .before .before .before .before .before .a4 .given .0 .0)) (c .before .before .before .before .before .before .before .onward5 .ensures) (c .before .before .before .before .before .truth .ensures .0)) (c .before .walked .given .1), tt)
 
 truth-loop-again-5 : (t : ℕ) → truth-lts.Need-loop-again-5 (truth-claims t) (truth-at t) truth.Post truth-Inv-loop truth-μ-loop
 truth-loop-again-5 t c =
     let o = c .before .before .before .before .before .before .before .before .before .before .before .before .before .before .before .before in
     let l = o .before .before .before .before .loop in
     let on = l .inv .2 in
-    let kept = rw (c .before .before .before .before .before .before .after .given .1, c .before .before .before .before .before .before .before .before .before .before .before .before .onward5 .ensures) at (c .before .before .before .before .before .before .before .before .before .before .truth .ensures .1) in
-    let past = premise-past on (truth-here t o) (alone (True (c .before .before .before .before .before .before .before .before .before .before .before .before .before .before .a4 .given .0 .0))) (called-alone on (truth-here t o) (True (c .before .before .before .before .before .before .before .before .before .before .before .before .before .before .a4 .given .0 .0)) (c .before .before .before .before .before .before .before .before .before .before .before .before .onward5 .ensures) (c .before .before .before .before .before .before .before .before .before .before .truth .ensures .0)) (c .before .before .before .before .before .before .after .given .1) in
-    let on′ = goes-with on (truth-here t o) (True (l .f)) (c .before .before .before .before .before .before .before .before .before .before .before .before .before .before .a4 .given .0 .1 .0) _ (first-proved on (truth-here t o) (truth-is t o (c .before .before .before .before .before .before .before .before .before .before .before .before .before .before .a4 .given .1)) (called-alone on (truth-here t o) (True (c .before .before .before .before .before .before .before .before .before .before .before .before .before .before .a4 .given .0 .0)) (c .before .before .before .before .before .before .before .before .before .before .before .before .onward5 .ensures) (c .before .before .before .before .before .before .before .before .before .before .truth .ensures .0)) (c .before .before .before .before .before .before .after .given .1)) (omega (arith, past)) (kept .2) (c .before .before .before .hold5 .ensures .0) (c .before .before .before .hold5 .ensures .1) (c .onward6 .ensures) in
+    let kept = rw (c .before .before .before .before .before .before .walked2 .given .1, c .before .before .before .before .before .before .before .before .before .before .before .before .onward5 .ensures) at (c .before .before .before .before .before .before .before .before .before .before .truth .ensures .1) in
+    let past = premise-past on (truth-here t o) (alone (True (c .before .before .before .before .before .before .before .before .before .before .before .before .before .before .a4 .given .0 .0))) (called-alone on (truth-here t o) (True (c .before .before .before .before .before .before .before .before .before .before .before .before .before .before .a4 .given .0 .0)) (c .before .before .before .before .before .before .before .before .before .before .before .before .onward5 .ensures) (c .before .before .before .before .before .before .before .before .before .before .truth .ensures .0)) (c .before .before .before .before .before .before .walked2 .given .1) in
+    let on′ = goes-with on (truth-here t o) (True (l .f)) (c .before .before .before .before .before .before .before .before .before .before .before .before .before .before .a4 .given .0 .1 .0) _ (first-proved on (truth-here t o) (truth-is t o (c .before .before .before .before .before .before .before .before .before .before .before .before .before .before .a4 .given .1)) (called-alone on (truth-here t o) (True (c .before .before .before .before .before .before .before .before .before .before .before .before .before .before .a4 .given .0 .0)) (c .before .before .before .before .before .before .before .before .before .before .before .before .onward5 .ensures) (c .before .before .before .before .before .before .before .before .before .before .truth .ensures .0)) (c .before .before .before .before .before .before .walked2 .given .1)) (omega (arith, past)) (kept .2) (c .before .before .before .hold5 .ensures .0) (c .before .before .before .hold5 .ensures .1) (c .onward6 .ensures) in
     (on-length on′, rw (c .onward6 .ensures), on′)
 
 truth-loop-less-5 : (t : ℕ) → truth-lts.Need-loop-less-5 (truth-claims t) (truth-at t) truth.Post truth-Inv-loop truth-μ-loop
@@ -348,7 +348,7 @@ truth-loop-less-5 t c =
     let l = o .before .before .before .before .loop in
     let on = l .inv .2 in
     let v = c .onward6 .ensures in
-    let past = premise-past on (truth-here t o) (alone (True (c .before .before .before .before .before .before .before .before .before .before .before .before .before .before .a4 .given .0 .0))) (called-alone on (truth-here t o) (True (c .before .before .before .before .before .before .before .before .before .before .before .before .before .before .a4 .given .0 .0)) (c .before .before .before .before .before .before .before .before .before .before .before .before .onward5 .ensures) (c .before .before .before .before .before .before .before .before .before .before .truth .ensures .0)) (c .before .before .before .before .before .before .after .given .1) in
+    let past = premise-past on (truth-here t o) (alone (True (c .before .before .before .before .before .before .before .before .before .before .before .before .before .before .a4 .given .0 .0))) (called-alone on (truth-here t o) (True (c .before .before .before .before .before .before .before .before .before .before .before .before .before .before .a4 .given .0 .0)) (c .before .before .before .before .before .before .before .before .before .before .before .before .onward5 .ensures) (c .before .before .before .before .before .before .before .before .before .before .truth .ensures .0)) (c .before .before .before .before .before .before .walked2 .given .1) in
     rw v (omega (arith, past, truth-here t o .inside))
 
 truth-onward-requires-6 : (t : ℕ) → truth-lts.Need-onward-requires-6 (truth-claims t) (truth-at t) truth.Post truth-Inv-loop truth-μ-loop
@@ -379,17 +379,17 @@ truth-returns-7 t c =
     let o = c .before .before .before .before .before .before .before .before .before .before .before .before .before .before .before in
     let l = o .before .before .before .before .loop in
     let on = l .inv .2 in
-    (first-refused on (truth-here t o) (truth-is t o (c .before .before .before .before .before .before .before .before .before .before .before .before .before .a6 .given .1)) (called-with on (truth-here t o) (True (l .f)) (c .before .before .before .before .before .before .before .before .before .before .before .before .before .a6 .given .0 .0) (c .before .before .before .before .before .before .before .before .before .before .hold6 .ensures .1) (c .before .before .before .before .before .before .before .onward9 .ensures) (c .before .before .before .before .before .truth3 .ensures .0)) (c .before .number4 .given .1), tt)
+    (first-refused on (truth-here t o) (truth-is t o (c .before .before .before .before .before .before .before .before .before .before .before .before .before .a6 .given .1)) (called-with on (truth-here t o) (True (l .f)) (c .before .before .before .before .before .before .before .before .before .before .before .before .before .a6 .given .0 .0) (c .before .before .before .before .before .before .before .before .before .before .hold6 .ensures .1) (c .before .before .before .before .before .before .before .onward9 .ensures) (c .before .before .before .before .before .truth3 .ensures .0)) (c .before .walked5 .given .1), tt)
 
 truth-loop-again-7 : (t : ℕ) → truth-lts.Need-loop-again-7 (truth-claims t) (truth-at t) truth.Post truth-Inv-loop truth-μ-loop
 truth-loop-again-7 t c =
     let o = c .before .before .before .before .before .before .before .before .before .before .before .before .before .before .before .before .before .before .before .before .before .before .before .before in
     let l = o .before .before .before .before .loop in
     let on = l .inv .2 in
-    let kept = rw (c .before .before .before .before .before .before .before .before .before .before .after3 .given .1, c .before .before .before .before .before .before .before .before .before .before .before .before .before .before .before .before .onward9 .ensures) at (c .before .before .before .before .before .before .before .before .before .before .before .before .before .before .truth3 .ensures .1) in
-    let past = premise-past on (truth-here t o) (adding (True (l .f)) (c .before .before .before .before .before .before .before .before .before .before .before .before .before .before .before .before .before .before .before .before .before .before .a6 .given .0 .0)) (called-with on (truth-here t o) (True (l .f)) (c .before .before .before .before .before .before .before .before .before .before .before .before .before .before .before .before .before .before .before .before .before .before .a6 .given .0 .0) (c .before .before .before .before .before .before .before .before .before .before .before .before .before .before .before .before .before .before .before .hold6 .ensures .1) (c .before .before .before .before .before .before .before .before .before .before .before .before .before .before .before .before .onward9 .ensures) (c .before .before .before .before .before .before .before .before .before .before .before .before .before .before .truth3 .ensures .0)) (c .before .before .before .before .before .before .before .before .before .before .after3 .given .1) in
+    let kept = rw (c .before .before .before .before .before .before .before .before .before .before .walked6 .given .1, c .before .before .before .before .before .before .before .before .before .before .before .before .before .before .before .before .onward9 .ensures) at (c .before .before .before .before .before .before .before .before .before .before .before .before .before .before .truth3 .ensures .1) in
+    let past = premise-past on (truth-here t o) (adding (True (l .f)) (c .before .before .before .before .before .before .before .before .before .before .before .before .before .before .before .before .before .before .before .before .before .before .a6 .given .0 .0)) (called-with on (truth-here t o) (True (l .f)) (c .before .before .before .before .before .before .before .before .before .before .before .before .before .before .before .before .before .before .before .before .before .before .a6 .given .0 .0) (c .before .before .before .before .before .before .before .before .before .before .before .before .before .before .before .before .before .before .before .hold6 .ensures .1) (c .before .before .before .before .before .before .before .before .before .before .before .before .before .before .before .before .onward9 .ensures) (c .before .before .before .before .before .before .before .before .before .before .before .before .before .before .truth3 .ensures .0)) (c .before .before .before .before .before .before .before .before .before .before .walked6 .given .1) in
     let back = held-back (c .before .before .before .before .before .before .before .before .before .before .before .before .before .before .before .before .before .before .before .before .before .before .a6 .given .0 .0 .0) (on .since .ready) (c .before .before .before .before .before .before .before .before .before .before .before .before .before .before .before .before .before .before .before .hold6 .ensures .0) (c .before .before .before .before .before .before .before .before .before .before .before .before .before .before .before .before .before .before .before .hold6 .ensures .1) (kept .2) (c .before .before .before .before .before .before .before .release .ensures) in
-    let on′ = goes-with on (truth-here t o) (True (l .f)) (c .before .before .before .before .before .before .before .before .before .before .before .before .before .before .before .before .before .before .before .before .before .before .a6 .given .0 .1 .0) _ (first-proved on (truth-here t o) (truth-is t o (c .before .before .before .before .before .before .before .before .before .before .before .before .before .before .before .before .before .before .before .before .before .before .a6 .given .1)) (called-with on (truth-here t o) (True (l .f)) (c .before .before .before .before .before .before .before .before .before .before .before .before .before .before .before .before .before .before .before .before .before .before .a6 .given .0 .0) (c .before .before .before .before .before .before .before .before .before .before .before .before .before .before .before .before .before .before .before .hold6 .ensures .1) (c .before .before .before .before .before .before .before .before .before .before .before .before .before .before .before .before .onward9 .ensures) (c .before .before .before .before .before .before .before .before .before .before .before .before .before .before .truth3 .ensures .0)) (c .before .before .before .before .before .before .before .before .before .before .after3 .given .1)) (omega (arith, past)) back (c .before .before .before .hold7 .ensures .0) (c .before .before .before .hold7 .ensures .1) (c .onward10 .ensures) in
+    let on′ = goes-with on (truth-here t o) (True (l .f)) (c .before .before .before .before .before .before .before .before .before .before .before .before .before .before .before .before .before .before .before .before .before .before .a6 .given .0 .1 .0) _ (first-proved on (truth-here t o) (truth-is t o (c .before .before .before .before .before .before .before .before .before .before .before .before .before .before .before .before .before .before .before .before .before .before .a6 .given .1)) (called-with on (truth-here t o) (True (l .f)) (c .before .before .before .before .before .before .before .before .before .before .before .before .before .before .before .before .before .before .before .before .before .before .a6 .given .0 .0) (c .before .before .before .before .before .before .before .before .before .before .before .before .before .before .before .before .before .before .before .hold6 .ensures .1) (c .before .before .before .before .before .before .before .before .before .before .before .before .before .before .before .before .onward9 .ensures) (c .before .before .before .before .before .before .before .before .before .before .before .before .before .before .truth3 .ensures .0)) (c .before .before .before .before .before .before .before .before .before .before .walked6 .given .1)) (omega (arith, past)) back (c .before .before .before .hold7 .ensures .0) (c .before .before .before .hold7 .ensures .1) (c .onward10 .ensures) in
     (on-length on′, rw (c .onward10 .ensures), on′)
 
 truth-loop-less-7 : (t : ℕ) → truth-lts.Need-loop-less-7 (truth-claims t) (truth-at t) truth.Post truth-Inv-loop truth-μ-loop
@@ -398,7 +398,7 @@ truth-loop-less-7 t c =
     let l = o .before .before .before .before .loop in
     let on = l .inv .2 in
     let v = c .onward10 .ensures in
-    let past = premise-past on (truth-here t o) (adding (True (l .f)) (c .before .before .before .before .before .before .before .before .before .before .before .before .before .before .before .before .before .before .before .before .before .before .a6 .given .0 .0)) (called-with on (truth-here t o) (True (l .f)) (c .before .before .before .before .before .before .before .before .before .before .before .before .before .before .before .before .before .before .before .before .before .before .a6 .given .0 .0) (c .before .before .before .before .before .before .before .before .before .before .before .before .before .before .before .before .before .before .before .hold6 .ensures .1) (c .before .before .before .before .before .before .before .before .before .before .before .before .before .before .before .before .onward9 .ensures) (c .before .before .before .before .before .before .before .before .before .before .before .before .before .before .truth3 .ensures .0)) (c .before .before .before .before .before .before .before .before .before .before .after3 .given .1) in
+    let past = premise-past on (truth-here t o) (adding (True (l .f)) (c .before .before .before .before .before .before .before .before .before .before .before .before .before .before .before .before .before .before .before .before .before .before .a6 .given .0 .0)) (called-with on (truth-here t o) (True (l .f)) (c .before .before .before .before .before .before .before .before .before .before .before .before .before .before .before .before .before .before .before .before .before .before .a6 .given .0 .0) (c .before .before .before .before .before .before .before .before .before .before .before .before .before .before .before .before .before .before .before .hold6 .ensures .1) (c .before .before .before .before .before .before .before .before .before .before .before .before .before .before .before .before .onward9 .ensures) (c .before .before .before .before .before .before .before .before .before .before .before .before .before .before .truth3 .ensures .0)) (c .before .before .before .before .before .before .before .before .before .before .walked6 .given .1) in
     rw v (omega (arith, past, truth-here t o .inside))
 
 truth-onward-requires-10 : (t : ℕ) → truth-lts.Need-onward-requires-10 (truth-claims t) (truth-at t) truth.Post truth-Inv-loop truth-μ-loop
@@ -429,16 +429,16 @@ truth-returns-6 t c =
     let o = c .before .before .before .before .before .before .before .before .before .before .before in
     let l = o .before .before .before .before .loop in
     let on = l .inv .2 in
-    (first-refused on (truth-here t o) (truth-is t o (c .before .before .before .before .before .before .before .before .before .a5 .given .1)) (called-alone on (truth-here t o) (True (c .before .before .before .before .before .before .before .before .before .a5 .given .0 .0)) (c .before .before .before .before .before .before .before .onward7 .ensures) (c .before .before .before .before .before .truth2 .ensures .0)) (c .before .number3 .given .1), tt)
+    (first-refused on (truth-here t o) (truth-is t o (c .before .before .before .before .before .before .before .before .before .a5 .given .1)) (called-alone on (truth-here t o) (True (c .before .before .before .before .before .before .before .before .before .a5 .given .0 .0)) (c .before .before .before .before .before .before .before .onward7 .ensures) (c .before .before .before .before .before .truth2 .ensures .0)) (c .before .walked3 .given .1), tt)
 
 truth-loop-again-6 : (t : ℕ) → truth-lts.Need-loop-again-6 (truth-claims t) (truth-at t) truth.Post truth-Inv-loop truth-μ-loop
 truth-loop-again-6 t c =
     let o = c .before .before .before .before .before .before .before .before .before .before .before .before in
     let l = o .before .before .before .before .loop in
     let on = l .inv .2 in
-    let kept = rw (c .before .before .after2 .given .1, c .before .before .before .before .before .before .before .before .onward7 .ensures) at (c .before .before .before .before .before .before .truth2 .ensures .1) in
-    let past = premise-past on (truth-here t o) (alone (True (c .before .before .before .before .before .before .before .before .before .before .a5 .given .0 .0))) (called-alone on (truth-here t o) (True (c .before .before .before .before .before .before .before .before .before .before .a5 .given .0 .0)) (c .before .before .before .before .before .before .before .before .onward7 .ensures) (c .before .before .before .before .before .before .truth2 .ensures .0)) (c .before .before .after2 .given .1) in
-    let on′ = goes-alone on (truth-here t o) (True (c .before .before .before .before .before .before .before .before .before .before .a5 .given .0 .1 .0)) _ (first-proved on (truth-here t o) (truth-is t o (c .before .before .before .before .before .before .before .before .before .before .a5 .given .1)) (called-alone on (truth-here t o) (True (c .before .before .before .before .before .before .before .before .before .before .a5 .given .0 .0)) (c .before .before .before .before .before .before .before .before .onward7 .ensures) (c .before .before .before .before .before .before .truth2 .ensures .0)) (c .before .before .after2 .given .1)) (omega (arith, past)) (kept .2) (c .onward8 .ensures) in
+    let kept = rw (c .before .before .walked4 .given .1, c .before .before .before .before .before .before .before .before .onward7 .ensures) at (c .before .before .before .before .before .before .truth2 .ensures .1) in
+    let past = premise-past on (truth-here t o) (alone (True (c .before .before .before .before .before .before .before .before .before .before .a5 .given .0 .0))) (called-alone on (truth-here t o) (True (c .before .before .before .before .before .before .before .before .before .before .a5 .given .0 .0)) (c .before .before .before .before .before .before .before .before .onward7 .ensures) (c .before .before .before .before .before .before .truth2 .ensures .0)) (c .before .before .walked4 .given .1) in
+    let on′ = goes-alone on (truth-here t o) (True (c .before .before .before .before .before .before .before .before .before .before .a5 .given .0 .1 .0)) _ (first-proved on (truth-here t o) (truth-is t o (c .before .before .before .before .before .before .before .before .before .before .a5 .given .1)) (called-alone on (truth-here t o) (True (c .before .before .before .before .before .before .before .before .before .before .a5 .given .0 .0)) (c .before .before .before .before .before .before .before .before .onward7 .ensures) (c .before .before .before .before .before .before .truth2 .ensures .0)) (c .before .before .walked4 .given .1)) (omega (arith, past)) (kept .2) (c .onward8 .ensures) in
     (on-length on′, rw (c .onward8 .ensures), on′)
 
 truth-loop-less-6 : (t : ℕ) → truth-lts.Need-loop-less-6 (truth-claims t) (truth-at t) truth.Post truth-Inv-loop truth-μ-loop
@@ -447,7 +447,7 @@ truth-loop-less-6 t c =
     let l = o .before .before .before .before .loop in
     let on = l .inv .2 in
     let v = c .onward8 .ensures in
-    let past = premise-past on (truth-here t o) (alone (True (c .before .before .before .before .before .before .before .before .before .before .a5 .given .0 .0))) (called-alone on (truth-here t o) (True (c .before .before .before .before .before .before .before .before .before .before .a5 .given .0 .0)) (c .before .before .before .before .before .before .before .before .onward7 .ensures) (c .before .before .before .before .before .before .truth2 .ensures .0)) (c .before .before .after2 .given .1) in
+    let past = premise-past on (truth-here t o) (alone (True (c .before .before .before .before .before .before .before .before .before .before .a5 .given .0 .0))) (called-alone on (truth-here t o) (True (c .before .before .before .before .before .before .before .before .before .before .a5 .given .0 .0)) (c .before .before .before .before .before .before .before .before .onward7 .ensures) (c .before .before .before .before .before .before .truth2 .ensures .0)) (c .before .before .walked4 .given .1) in
     rw v (omega (arith, past, truth-here t o .inside))
 
 truth-onward-requires-8 : (t : ℕ) → truth-lts.Need-onward-requires-8 (truth-claims t) (truth-at t) truth.Post truth-Inv-loop truth-μ-loop
@@ -478,15 +478,15 @@ truth-returns-8 t c =
     let o = c .before .before .before .before .before .before .before .before .before .before .before in
     let l = o .before .before .before .before .loop in
     let on = l .inv .2 in
-    (only-refused on (truth-here t o) (truth-is t o (c .before .before .before .before .before .before .before .before .before .k .given .1)) (called-alone on (truth-here t o) (Affirms (c .before .before .before .before .before .before .before .before .before .k .given .0 .0) (c .before .before .before .before .before .before .before .before .before .k .given .0 .1 .0)) (c .before .before .before .before .before .before .before .onward11 .ensures) (c .before .before .before .before .before .affirmation .ensures .0)) (c .before .number5 .given .1), tt)
+    (only-refused on (truth-here t o) (truth-is t o (c .before .before .before .before .before .before .before .before .before .k .given .1)) (called-alone on (truth-here t o) (Affirms (c .before .before .before .before .before .before .before .before .before .k .given .0 .0) (c .before .before .before .before .before .before .before .before .before .k .given .0 .1 .0)) (c .before .before .before .before .before .before .before .onward11 .ensures) (c .before .before .before .before .before .affirmation .ensures .0)) (c .before .walked7 .given .1), tt)
 
 truth-returns-9 : (t : ℕ) → truth-lts.Need-returns-9 (truth-claims t) (truth-at t) truth.Post truth-Inv-loop truth-μ-loop
 truth-returns-9 t c =
     let o = c .before .before .before .before .before .before .before .before .before .before .before .before .before .before .before in
     let l = o .before .before .before .before .loop in
     let on = l .inv .2 in
-    let kept = rw (c .before .before .before .before .before .after4 .given .1, c .before .before .before .before .before .before .before .before .before .before .before .onward11 .ensures) at (c .before .before .before .before .before .before .before .before .before .affirmation .ensures .1) in
-    done _ _ _ _ (since-kept (on .since) (kept .2)) (only-proved on (truth-here t o) (truth-is t o (c .before .before .before .before .before .before .before .before .before .before .before .before .before .k .given .1)) (called-alone on (truth-here t o) (Affirms (c .before .before .before .before .before .before .before .before .before .before .before .before .before .k .given .0 .0) (c .before .before .before .before .before .before .before .before .before .before .before .before .before .k .given .0 .1 .0)) (c .before .before .before .before .before .before .before .before .before .before .before .onward11 .ensures) (c .before .before .before .before .before .before .before .before .before .affirmation .ensures .0)) (c .before .before .before .before .before .after4 .given .1)) (c .before .before .proved2 .ensures .0) (c .before .before .proved2 .ensures .1)
+    let kept = rw (c .before .before .before .before .before .walked8 .given .1, c .before .before .before .before .before .before .before .before .before .before .before .onward11 .ensures) at (c .before .before .before .before .before .before .before .before .before .affirmation .ensures .1) in
+    done _ _ _ _ (since-kept (on .since) (kept .2)) (only-proved on (truth-here t o) (truth-is t o (c .before .before .before .before .before .before .before .before .before .before .before .before .before .k .given .1)) (called-alone on (truth-here t o) (Affirms (c .before .before .before .before .before .before .before .before .before .before .before .before .before .k .given .0 .0) (c .before .before .before .before .before .before .before .before .before .before .before .before .before .k .given .0 .1 .0)) (c .before .before .before .before .before .before .before .before .before .before .before .onward11 .ensures) (c .before .before .before .before .before .before .before .before .before .affirmation .ensures .0)) (c .before .before .before .before .before .walked8 .given .1)) (c .before .before .proved2 .ensures .0) (c .before .before .proved2 .ensures .1)
 
 affirmation-add-onward-2 : (t : ℕ) → affirmation-lts.Need-add-onward-2 (affirmation-claims t) (affirmation-at t) affirmation.Post affirmation-Inv-loop affirmation-μ-loop
 affirmation-add-onward-2 t c =
@@ -579,16 +579,16 @@ affirmation-returns-7 t c =
     let o = c .before .before .before .before .before .before .before .before .before .before .before in
     let l = o .before .before .before .before .loop in
     let on = l .inv .2 in
-    (first-refused on (affirmation-here t o) (affirmation-is t o (c .before .before .before .before .before .before .before .before .before .a4 .given .1)) (called-alone on (affirmation-here t o) (True (c .before .before .before .before .before .before .before .before .before .a4 .given .0 .0)) (c .before .before .before .before .before .before .before .onward4 .ensures) (c .before .before .before .before .before .truth2 .ensures .0)) (c .before .number3 .given .1), tt)
+    (first-refused on (affirmation-here t o) (affirmation-is t o (c .before .before .before .before .before .before .before .before .before .a4 .given .1)) (called-alone on (affirmation-here t o) (True (c .before .before .before .before .before .before .before .before .before .a4 .given .0 .0)) (c .before .before .before .before .before .before .before .onward4 .ensures) (c .before .before .before .before .before .truth2 .ensures .0)) (c .before .walked3 .given .1), tt)
 
 affirmation-loop-again-3 : (t : ℕ) → affirmation-lts.Need-loop-again-3 (affirmation-claims t) (affirmation-at t) affirmation.Post affirmation-Inv-loop affirmation-μ-loop
 affirmation-loop-again-3 t c =
     let o = c .before .before .before .before .before .before .before .before .before .before .before .before .before .before .before .before in
     let l = o .before .before .before .before .loop in
     let on = l .inv .2 in
-    let kept = rw (c .before .before .before .before .before .before .after2 .given .1, c .before .before .before .before .before .before .before .before .before .before .before .before .onward4 .ensures) at (c .before .before .before .before .before .before .before .before .before .before .truth2 .ensures .1) in
-    let past = premise-past on (affirmation-here t o) (alone (True (c .before .before .before .before .before .before .before .before .before .before .before .before .before .before .a4 .given .0 .0))) (called-alone on (affirmation-here t o) (True (c .before .before .before .before .before .before .before .before .before .before .before .before .before .before .a4 .given .0 .0)) (c .before .before .before .before .before .before .before .before .before .before .before .before .onward4 .ensures) (c .before .before .before .before .before .before .before .before .before .before .truth2 .ensures .0)) (c .before .before .before .before .before .before .after2 .given .1) in
-    let on′ = goes-with on (affirmation-here t o) (Affirms (o .before .before .before .before .before .before .start .given .0 .0) (o .before .before .before .before .before .before .start .given .0 .1 .0)) (c .before .before .before .before .before .before .before .before .before .before .before .before .before .before .a4 .given .0 .1 .0) _ (first-proved on (affirmation-here t o) (affirmation-is t o (c .before .before .before .before .before .before .before .before .before .before .before .before .before .before .a4 .given .1)) (called-alone on (affirmation-here t o) (True (c .before .before .before .before .before .before .before .before .before .before .before .before .before .before .a4 .given .0 .0)) (c .before .before .before .before .before .before .before .before .before .before .before .before .onward4 .ensures) (c .before .before .before .before .before .before .before .before .before .before .truth2 .ensures .0)) (c .before .before .before .before .before .before .after2 .given .1)) (omega (arith, past)) (kept .2) (c .before .before .before .hold4 .ensures .0) (c .before .before .before .hold4 .ensures .1) (c .onward5 .ensures) in
+    let kept = rw (c .before .before .before .before .before .before .walked4 .given .1, c .before .before .before .before .before .before .before .before .before .before .before .before .onward4 .ensures) at (c .before .before .before .before .before .before .before .before .before .before .truth2 .ensures .1) in
+    let past = premise-past on (affirmation-here t o) (alone (True (c .before .before .before .before .before .before .before .before .before .before .before .before .before .before .a4 .given .0 .0))) (called-alone on (affirmation-here t o) (True (c .before .before .before .before .before .before .before .before .before .before .before .before .before .before .a4 .given .0 .0)) (c .before .before .before .before .before .before .before .before .before .before .before .before .onward4 .ensures) (c .before .before .before .before .before .before .before .before .before .before .truth2 .ensures .0)) (c .before .before .before .before .before .before .walked4 .given .1) in
+    let on′ = goes-with on (affirmation-here t o) (Affirms (o .before .before .before .before .before .before .start .given .0 .0) (o .before .before .before .before .before .before .start .given .0 .1 .0)) (c .before .before .before .before .before .before .before .before .before .before .before .before .before .before .a4 .given .0 .1 .0) _ (first-proved on (affirmation-here t o) (affirmation-is t o (c .before .before .before .before .before .before .before .before .before .before .before .before .before .before .a4 .given .1)) (called-alone on (affirmation-here t o) (True (c .before .before .before .before .before .before .before .before .before .before .before .before .before .before .a4 .given .0 .0)) (c .before .before .before .before .before .before .before .before .before .before .before .before .onward4 .ensures) (c .before .before .before .before .before .before .before .before .before .before .truth2 .ensures .0)) (c .before .before .before .before .before .before .walked4 .given .1)) (omega (arith, past)) (kept .2) (c .before .before .before .hold4 .ensures .0) (c .before .before .before .hold4 .ensures .1) (c .onward5 .ensures) in
     (on-length on′, rw (c .onward5 .ensures), on′)
 
 affirmation-loop-less-3 : (t : ℕ) → affirmation-lts.Need-loop-less-3 (affirmation-claims t) (affirmation-at t) affirmation.Post affirmation-Inv-loop affirmation-μ-loop
@@ -597,7 +597,7 @@ affirmation-loop-less-3 t c =
     let l = o .before .before .before .before .loop in
     let on = l .inv .2 in
     let v = c .onward5 .ensures in
-    let past = premise-past on (affirmation-here t o) (alone (True (c .before .before .before .before .before .before .before .before .before .before .before .before .before .before .a4 .given .0 .0))) (called-alone on (affirmation-here t o) (True (c .before .before .before .before .before .before .before .before .before .before .before .before .before .before .a4 .given .0 .0)) (c .before .before .before .before .before .before .before .before .before .before .before .before .onward4 .ensures) (c .before .before .before .before .before .before .before .before .before .before .truth2 .ensures .0)) (c .before .before .before .before .before .before .after2 .given .1) in
+    let past = premise-past on (affirmation-here t o) (alone (True (c .before .before .before .before .before .before .before .before .before .before .before .before .before .before .a4 .given .0 .0))) (called-alone on (affirmation-here t o) (True (c .before .before .before .before .before .before .before .before .before .before .before .before .before .before .a4 .given .0 .0)) (c .before .before .before .before .before .before .before .before .before .before .before .before .onward4 .ensures) (c .before .before .before .before .before .before .before .before .before .before .truth2 .ensures .0)) (c .before .before .before .before .before .before .walked4 .given .1) in
     rw v (omega (arith, past, affirmation-here t o .inside))
 
 affirmation-onward-requires-5 : (t : ℕ) → affirmation-lts.Need-onward-requires-5 (affirmation-claims t) (affirmation-at t) affirmation.Post affirmation-Inv-loop affirmation-μ-loop
@@ -628,17 +628,17 @@ affirmation-returns-8 t c =
     let o = c .before .before .before .before .before .before .before .before .before .before .before .before .before .before .before in
     let l = o .before .before .before .before .loop in
     let on = l .inv .2 in
-    (first-refused on (affirmation-here t o) (affirmation-is t o (c .before .before .before .before .before .before .before .before .before .before .before .before .before .a5 .given .1)) (called-with on (affirmation-here t o) (Affirms (o .before .before .before .before .before .before .start .given .0 .0) (o .before .before .before .before .before .before .start .given .0 .1 .0)) (c .before .before .before .before .before .before .before .before .before .before .before .before .before .a5 .given .0 .0) (c .before .before .before .before .before .before .before .before .before .before .hold5 .ensures .1) (c .before .before .before .before .before .before .before .onward6 .ensures) (c .before .before .before .before .before .affirmation .ensures .0)) (c .before .number4 .given .1), tt)
+    (first-refused on (affirmation-here t o) (affirmation-is t o (c .before .before .before .before .before .before .before .before .before .before .before .before .before .a5 .given .1)) (called-with on (affirmation-here t o) (Affirms (o .before .before .before .before .before .before .start .given .0 .0) (o .before .before .before .before .before .before .start .given .0 .1 .0)) (c .before .before .before .before .before .before .before .before .before .before .before .before .before .a5 .given .0 .0) (c .before .before .before .before .before .before .before .before .before .before .hold5 .ensures .1) (c .before .before .before .before .before .before .before .onward6 .ensures) (c .before .before .before .before .before .affirmation .ensures .0)) (c .before .walked5 .given .1), tt)
 
 affirmation-loop-again-4 : (t : ℕ) → affirmation-lts.Need-loop-again-4 (affirmation-claims t) (affirmation-at t) affirmation.Post affirmation-Inv-loop affirmation-μ-loop
 affirmation-loop-again-4 t c =
     let o = c .before .before .before .before .before .before .before .before .before .before .before .before .before .before .before .before .before .before .before .before .before .before .before .before in
     let l = o .before .before .before .before .loop in
     let on = l .inv .2 in
-    let kept = rw (c .before .before .before .before .before .before .before .before .before .before .after3 .given .1, c .before .before .before .before .before .before .before .before .before .before .before .before .before .before .before .before .onward6 .ensures) at (c .before .before .before .before .before .before .before .before .before .before .before .before .before .before .affirmation .ensures .1) in
-    let past = premise-past on (affirmation-here t o) (adding (Affirms (o .before .before .before .before .before .before .start .given .0 .0) (o .before .before .before .before .before .before .start .given .0 .1 .0)) (c .before .before .before .before .before .before .before .before .before .before .before .before .before .before .before .before .before .before .before .before .before .before .a5 .given .0 .0)) (called-with on (affirmation-here t o) (Affirms (o .before .before .before .before .before .before .start .given .0 .0) (o .before .before .before .before .before .before .start .given .0 .1 .0)) (c .before .before .before .before .before .before .before .before .before .before .before .before .before .before .before .before .before .before .before .before .before .before .a5 .given .0 .0) (c .before .before .before .before .before .before .before .before .before .before .before .before .before .before .before .before .before .before .before .hold5 .ensures .1) (c .before .before .before .before .before .before .before .before .before .before .before .before .before .before .before .before .onward6 .ensures) (c .before .before .before .before .before .before .before .before .before .before .before .before .before .before .affirmation .ensures .0)) (c .before .before .before .before .before .before .before .before .before .before .after3 .given .1) in
+    let kept = rw (c .before .before .before .before .before .before .before .before .before .before .walked6 .given .1, c .before .before .before .before .before .before .before .before .before .before .before .before .before .before .before .before .onward6 .ensures) at (c .before .before .before .before .before .before .before .before .before .before .before .before .before .before .affirmation .ensures .1) in
+    let past = premise-past on (affirmation-here t o) (adding (Affirms (o .before .before .before .before .before .before .start .given .0 .0) (o .before .before .before .before .before .before .start .given .0 .1 .0)) (c .before .before .before .before .before .before .before .before .before .before .before .before .before .before .before .before .before .before .before .before .before .before .a5 .given .0 .0)) (called-with on (affirmation-here t o) (Affirms (o .before .before .before .before .before .before .start .given .0 .0) (o .before .before .before .before .before .before .start .given .0 .1 .0)) (c .before .before .before .before .before .before .before .before .before .before .before .before .before .before .before .before .before .before .before .before .before .before .a5 .given .0 .0) (c .before .before .before .before .before .before .before .before .before .before .before .before .before .before .before .before .before .before .before .hold5 .ensures .1) (c .before .before .before .before .before .before .before .before .before .before .before .before .before .before .before .before .onward6 .ensures) (c .before .before .before .before .before .before .before .before .before .before .before .before .before .before .affirmation .ensures .0)) (c .before .before .before .before .before .before .before .before .before .before .walked6 .given .1) in
     let back = held-back (c .before .before .before .before .before .before .before .before .before .before .before .before .before .before .before .before .before .before .before .before .before .before .a5 .given .0 .0 .0) (on .since .ready) (c .before .before .before .before .before .before .before .before .before .before .before .before .before .before .before .before .before .before .before .hold5 .ensures .0) (c .before .before .before .before .before .before .before .before .before .before .before .before .before .before .before .before .before .before .before .hold5 .ensures .1) (kept .2) (c .before .before .before .before .before .before .before .release .ensures) in
-    let on′ = goes-with on (affirmation-here t o) (Affirms (o .before .before .before .before .before .before .start .given .0 .0) (o .before .before .before .before .before .before .start .given .0 .1 .0)) (c .before .before .before .before .before .before .before .before .before .before .before .before .before .before .before .before .before .before .before .before .before .before .a5 .given .0 .1 .0) _ (first-proved on (affirmation-here t o) (affirmation-is t o (c .before .before .before .before .before .before .before .before .before .before .before .before .before .before .before .before .before .before .before .before .before .before .a5 .given .1)) (called-with on (affirmation-here t o) (Affirms (o .before .before .before .before .before .before .start .given .0 .0) (o .before .before .before .before .before .before .start .given .0 .1 .0)) (c .before .before .before .before .before .before .before .before .before .before .before .before .before .before .before .before .before .before .before .before .before .before .a5 .given .0 .0) (c .before .before .before .before .before .before .before .before .before .before .before .before .before .before .before .before .before .before .before .hold5 .ensures .1) (c .before .before .before .before .before .before .before .before .before .before .before .before .before .before .before .before .onward6 .ensures) (c .before .before .before .before .before .before .before .before .before .before .before .before .before .before .affirmation .ensures .0)) (c .before .before .before .before .before .before .before .before .before .before .after3 .given .1)) (omega (arith, past)) back (c .before .before .before .hold6 .ensures .0) (c .before .before .before .hold6 .ensures .1) (c .onward7 .ensures) in
+    let on′ = goes-with on (affirmation-here t o) (Affirms (o .before .before .before .before .before .before .start .given .0 .0) (o .before .before .before .before .before .before .start .given .0 .1 .0)) (c .before .before .before .before .before .before .before .before .before .before .before .before .before .before .before .before .before .before .before .before .before .before .a5 .given .0 .1 .0) _ (first-proved on (affirmation-here t o) (affirmation-is t o (c .before .before .before .before .before .before .before .before .before .before .before .before .before .before .before .before .before .before .before .before .before .before .a5 .given .1)) (called-with on (affirmation-here t o) (Affirms (o .before .before .before .before .before .before .start .given .0 .0) (o .before .before .before .before .before .before .start .given .0 .1 .0)) (c .before .before .before .before .before .before .before .before .before .before .before .before .before .before .before .before .before .before .before .before .before .before .a5 .given .0 .0) (c .before .before .before .before .before .before .before .before .before .before .before .before .before .before .before .before .before .before .before .hold5 .ensures .1) (c .before .before .before .before .before .before .before .before .before .before .before .before .before .before .before .before .onward6 .ensures) (c .before .before .before .before .before .before .before .before .before .before .before .before .before .before .affirmation .ensures .0)) (c .before .before .before .before .before .before .before .before .before .before .walked6 .given .1)) (omega (arith, past)) back (c .before .before .before .hold6 .ensures .0) (c .before .before .before .hold6 .ensures .1) (c .onward7 .ensures) in
     (on-length on′, rw (c .onward7 .ensures), on′)
 
 affirmation-loop-less-4 : (t : ℕ) → affirmation-lts.Need-loop-less-4 (affirmation-claims t) (affirmation-at t) affirmation.Post affirmation-Inv-loop affirmation-μ-loop
@@ -647,7 +647,7 @@ affirmation-loop-less-4 t c =
     let l = o .before .before .before .before .loop in
     let on = l .inv .2 in
     let v = c .onward7 .ensures in
-    let past = premise-past on (affirmation-here t o) (adding (Affirms (o .before .before .before .before .before .before .start .given .0 .0) (o .before .before .before .before .before .before .start .given .0 .1 .0)) (c .before .before .before .before .before .before .before .before .before .before .before .before .before .before .before .before .before .before .before .before .before .before .a5 .given .0 .0)) (called-with on (affirmation-here t o) (Affirms (o .before .before .before .before .before .before .start .given .0 .0) (o .before .before .before .before .before .before .start .given .0 .1 .0)) (c .before .before .before .before .before .before .before .before .before .before .before .before .before .before .before .before .before .before .before .before .before .before .a5 .given .0 .0) (c .before .before .before .before .before .before .before .before .before .before .before .before .before .before .before .before .before .before .before .hold5 .ensures .1) (c .before .before .before .before .before .before .before .before .before .before .before .before .before .before .before .before .onward6 .ensures) (c .before .before .before .before .before .before .before .before .before .before .before .before .before .before .affirmation .ensures .0)) (c .before .before .before .before .before .before .before .before .before .before .after3 .given .1) in
+    let past = premise-past on (affirmation-here t o) (adding (Affirms (o .before .before .before .before .before .before .start .given .0 .0) (o .before .before .before .before .before .before .start .given .0 .1 .0)) (c .before .before .before .before .before .before .before .before .before .before .before .before .before .before .before .before .before .before .before .before .before .before .a5 .given .0 .0)) (called-with on (affirmation-here t o) (Affirms (o .before .before .before .before .before .before .start .given .0 .0) (o .before .before .before .before .before .before .start .given .0 .1 .0)) (c .before .before .before .before .before .before .before .before .before .before .before .before .before .before .before .before .before .before .before .before .before .before .a5 .given .0 .0) (c .before .before .before .before .before .before .before .before .before .before .before .before .before .before .before .before .before .before .before .hold5 .ensures .1) (c .before .before .before .before .before .before .before .before .before .before .before .before .before .before .before .before .onward6 .ensures) (c .before .before .before .before .before .before .before .before .before .before .before .before .before .before .affirmation .ensures .0)) (c .before .before .before .before .before .before .before .before .before .before .walked6 .given .1) in
     rw v (omega (arith, past, affirmation-here t o .inside))
 
 affirmation-onward-requires-7 : (t : ℕ) → affirmation-lts.Need-onward-requires-7 (affirmation-claims t) (affirmation-at t) affirmation.Post affirmation-Inv-loop affirmation-μ-loop
@@ -678,15 +678,15 @@ affirmation-returns-5 t c =
     let o = c .before .before .before .before .before .before .before .before .before .before .before in
     let l = o .before .before .before .before .loop in
     let on = l .inv .2 in
-    (only-refused on (affirmation-here t o) (affirmation-is t o (c .before .before .before .before .before .before .before .before .before .a .given .1)) (called-alone on (affirmation-here t o) (True (c .before .before .before .before .before .before .before .before .before .a .given .0 .0)) (c .before .before .before .before .before .before .before .onward .ensures) (c .before .before .before .before .before .truth .ensures .0)) (c .before .number2 .given .1), tt)
+    (only-refused on (affirmation-here t o) (affirmation-is t o (c .before .before .before .before .before .before .before .before .before .a .given .1)) (called-alone on (affirmation-here t o) (True (c .before .before .before .before .before .before .before .before .before .a .given .0 .0)) (c .before .before .before .before .before .before .before .onward .ensures) (c .before .before .before .before .before .truth .ensures .0)) (c .before .walked .given .1), tt)
 
 affirmation-returns-6 : (t : ℕ) → affirmation-lts.Need-returns-6 (affirmation-claims t) (affirmation-at t) affirmation.Post affirmation-Inv-loop affirmation-μ-loop
 affirmation-returns-6 t c =
     let o = c .before .before .before .before .before .before .before .before .before .before .before .before .before .before .before in
     let l = o .before .before .before .before .loop in
     let on = l .inv .2 in
-    let kept = rw (c .before .before .before .before .before .after .given .1, c .before .before .before .before .before .before .before .before .before .before .before .onward .ensures) at (c .before .before .before .before .before .before .before .before .before .truth .ensures .1) in
-    done _ _ _ _ (since-kept (on .since) (kept .2)) (only-proved on (affirmation-here t o) (affirmation-is t o (c .before .before .before .before .before .before .before .before .before .before .before .before .before .a .given .1)) (called-alone on (affirmation-here t o) (True (c .before .before .before .before .before .before .before .before .before .before .before .before .before .a .given .0 .0)) (c .before .before .before .before .before .before .before .before .before .before .before .onward .ensures) (c .before .before .before .before .before .before .before .before .before .truth .ensures .0)) (c .before .before .before .before .before .after .given .1)) (c .before .before .proved2 .ensures .0) (c .before .before .proved2 .ensures .1)
+    let kept = rw (c .before .before .before .before .before .walked2 .given .1, c .before .before .before .before .before .before .before .before .before .before .before .onward .ensures) at (c .before .before .before .before .before .before .before .before .before .truth .ensures .1) in
+    done _ _ _ _ (since-kept (on .since) (kept .2)) (only-proved on (affirmation-here t o) (affirmation-is t o (c .before .before .before .before .before .before .before .before .before .before .before .before .before .a .given .1)) (called-alone on (affirmation-here t o) (True (c .before .before .before .before .before .before .before .before .before .before .before .before .before .a .given .0 .0)) (c .before .before .before .before .before .before .before .before .before .before .before .onward .ensures) (c .before .before .before .before .before .before .before .before .before .truth .ensures .0)) (c .before .before .before .before .before .walked2 .given .1)) (c .before .before .proved2 .ensures .0) (c .before .before .proved2 .ensures .1)
 
 affirmation-returns-9 : (t : ℕ) → affirmation-lts.Need-returns-9 (affirmation-claims t) (affirmation-at t) affirmation.Post affirmation-Inv-loop affirmation-μ-loop
 affirmation-returns-9 t c =
