@@ -1,8 +1,8 @@
 -- An entry is well-formed at a number exactly when its operands are below their kind's bounds. Assumes nothing.
 use Prim.Native.Nat.{ℕ, zero, suc, _<_, _≤_}
 use native.Mathlib.Omega.{arith}
-use mathlib.Core.Bool.{Bool, true, false}
-use mathlib.Core.Path.{_≡_, refl, ap, subst, _∙_}
+use mathlib.Core.Bool.{Bool, true, false, _&&_}
+use mathlib.Core.Path.{_≡_, refl, _∙_}
 use lib.ListN.{getD}
 use lib.Dec.{eqb, ltb}
 use borrow.Author.Tests.{eqb-true, eqb-false, lt-ltb, le-ltb}
@@ -55,21 +55,14 @@ bounded :
 unfolding entry
 bounded i head second = by-kind (upper head) (lower head) second i (omega arith)
 
--- As the code asks it, of the kind and the first operand that it has of the head:
-module _ (i head second : ℕ) {kind one f : ℕ} (k : kind ≡ upper head) (o : one ≡ lower head) (its : f ≡ firstBound kind i) where
-  -- the first operand's bound
-  first-bound : f ≡ firstBound (upper head) i
-  first-bound = its ∙ ap (λ (z : ℕ). firstBound z i) k
+-- Both tests are made, whatever the first answers.
+and-both : (a b : Bool) → (a && b) ≡ both a b
+and-both true b = refl
+and-both false b = refl
 
-  -- with the first operand below its bound f, the second against its bound s ..
-  pub asked-both : {s : ℕ} → one < f → s ≡ secondBound kind i → ltb second s ≡ wellFormedAt i (entry head second)
-  asked-both {s} below other =
-      let less : lower head < f = subst (λ (z : ℕ). z < f) o below in
-      let bound : s ≡ secondBound (upper head) i = other ∙ ap (λ (z : ℕ). secondBound z i) k in
-      rw (bound, ← bounded i head second, ← first-bound, lt-ltb (lower head) f less)
-
-  -- .. and else the first alone.
-  pub asked-first : f ≤ one → ltb one f ≡ wellFormedAt i (entry head second)
-  asked-first past =
-      let more : f ≤ lower head = subst (λ (z : ℕ). f ≤ z) o past in
-      rw (o, ← bounded i head second, ← first-bound, le-ltb (lower head) f more)
+-- As the code asks it, of the kind, the first operand and the bounds that it has of the head and the number.
+pub asked :
+    (i head second : ℕ) {kind one f s : ℕ} → kind ≡ upper head → one ≡ lower head → f ≡ firstBound kind i → s ≡ secondBound kind i
+    → (ltb one f && ltb second s) ≡ wellFormedAt i (entry head second)
+asked i head second {kind} {one} {f} {s} k o g h =
+    and-both (ltb one f) (ltb second s) ∙ rw (g, h, k, o) (bounded i head second)

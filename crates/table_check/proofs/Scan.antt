@@ -1,12 +1,15 @@
 -- The faults that tests 4 and 5 look for, as a loop over both arrays finds them. Assumes nothing.
 use Prim.Native.Nat.{ℕ, _+_, _<_, min}
+use native.Mathlib.Numerals.{add-one}
 use native.Mathlib.Omega.{arith}
-use mathlib.Core.Bool.{Bool, true, false, not}
+use mathlib.Core.Bool.{Bool, true, false, not, _&&_}
 use mathlib.Core.List.{List}
-use mathlib.Core.Path.{_≡_, sym, ap, _∙_}
+use mathlib.Core.Path.{_≡_, refl, sym, ap, _∙_}
 use lib.ListN.{length, getD}
+use Rattle.basics.specs.declared.place.Place.{Place}
 use Rattle.basics.specs.declared.place.Place.the-variants.{At, Nowhere}
-use Rattle.basics.specs.First.{first, found}
+use Rattle.basics.specs.Choice.{pick}
+use Rattle.basics.specs.First.{orElse, first, found}
 use Rattle.basics.proofs.First.{first-none-more, first-at}
 use Rattle.table.specs.Entry.{entry}
 use Rattle.table.specs.Tests.{entries, entryAt, wellFormedAt, wrongEntry, same, repeatedEntry}
@@ -16,6 +19,12 @@ use Rattle.table.proofs.Entries.{length-entries, entry-at}
 pub opposite : (a b : Bool) → b ≡ not a → a ≡ not b
 opposite true b e = sym (ap not e)
 opposite false b e = sym (ap not e)
+
+-- No fault is found in one place more exactly when none was, and here is none.
+one-more : (p : Place) (b here : Bool) (n : ℕ) → here ≡ not b → (not (found p) && b) ≡ not (found (orElse p (pick here (At n) Nowhere)))
+one-more (At i) b here n e = refl
+one-more Nowhere true here n e = rw e
+one-more Nowhere false here n e = rw e
 
 module _ (hs ss : List ℕ) where
   -- The entry of number i is wrong.
@@ -32,10 +41,16 @@ module _ (hs ss : List ℕ) where
   unfolding wrongEntry
   wrong-at i in-heads in-seconds none here = first-at wrong (length (entries hs ss)) i none here (omega (arith, length-entries hs ss))
 
-  -- None is wrong before the end of the shorter array: 4 finds no fault.
-  pub wrong-nowhere : (i : ℕ) → i ≡ min (length hs) (length ss) → first wrong i ≡ Nowhere → wrongEntry (entries hs ss) ≡ Nowhere
+  -- At the end of the shorter array 4 has its answer.
+  pub wrong-end : (i : ℕ) → i ≡ min (length hs) (length ss) → first wrong i ≡ wrongEntry (entries hs ss)
   unfolding wrongEntry
-  wrong-nowhere i end none = cc (length-entries hs ss)
+  wrong-end i end = cc (length-entries hs ss)
+
+  -- Entry i is well-formed or not, as b says, and `so-far` says that of all before it.
+  pub none-wrong-more :
+      (i : ℕ) (so-far b : Bool) → so-far ≡ not (found (first wrong i)) → wrong i ≡ not b → (so-far && b) ≡ not (found (first wrong (i + 1)))
+  unfolding first
+  none-wrong-more i so-far b e asked = rw (e, add-one i) (one-more (first wrong i) b (wrong i) i asked)
 
   -- Entry i has the head and second of an earlier one.
   abbrev pub repeated : ℕ → Bool

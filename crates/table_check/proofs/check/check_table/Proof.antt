@@ -1,5 +1,5 @@
 -- `table_check::check::check_table` meets its contract: each answer is a case of `tableTests`, and 2 leaves the sizes
--- that 5 needs. Assumes nothing.
+-- that 4 and 5 need. Assumes nothing.
 use mathlib.Core.Bool.{true}
 use mathlib.Core.Path.{_≡_, sym, _∙_}
 use borrow.Author.Needs.{needs}
@@ -15,6 +15,11 @@ returns c = sym (refused-2 _ _ (sym (c .before .is-sized .ensures) ∙ not-true 
 -- 2 was passed
 passed-2 : (c : tie.Else1) → let a = c .before .before .before .before .args in sized (a .heads .now) (a .seconds .now) ≡ true
 passed-2 c = sym (c .before .is-sized .ensures) ∙ not-false _ (c .if1 .left)
+
+wrong-entry-requires : tie.Need-wrong-entry-requires
+wrong-entry-requires c κs =
+    let a = c .before .before .before .before .args in
+    sizes (a .heads .now) (a .seconds .now) (passed-2 c) .1
 
 returns-2 : tie.Need-returns-2
 returns-2 c = sym (refused-4 _ _ (passed-2 (c .before .before .before .before)) _ (sym (c .before .before .before .wrong-entry .ensures) ∙ c .before .i .given .1))
@@ -44,7 +49,7 @@ check-table-spec =
     (tie.spec
     (λ c κs. search needs)
     returns
-    (λ c κs. search needs)
+    wrong-entry-requires
     (λ c. search needs)
     returns-2
     (λ c. search needs)

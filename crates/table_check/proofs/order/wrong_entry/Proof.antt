@@ -1,16 +1,16 @@
--- `table_check::order::wrong_entry` meets its contract. The loop's invariant: no entry before i is wrong. Assumes
--- nothing.
+-- `table_check::order::wrong_entry` meets its contract: where an entry is wrong, the loop finds the first. Its invariant:
+-- no entry before i is wrong. Assumes nothing.
 use Prim.Native.Nat.{_≤_, _-_}
 use native.Mathlib.Omega.{arith}
 use mathlib.Core.Bool.{not}
-use mathlib.Core.Path.{_≡_, refl, sym, _∙_}
+use mathlib.Core.Path.{_≡_, refl, sym, ap, _∙_}
 use lib.ListN.{length}
 use borrow.Author.Needs.{needs}
 use borrow.Author.Tests.{ltb-true, ltb-false}
 use Rattle.basics.specs.declared.place.Place.the-variants.{Nowhere}
 use Rattle.basics.specs.First.{first}
-use Rattle.basics.proofs.First.{first-none-more}
-use Rattle.table_check.proofs.Scan.{wrong, judged, wrong-at, wrong-nowhere}
+use Rattle.basics.proofs.First.{not-found, first-none-more}
+use Rattle.table_check.proofs.Scan.{opposite, wrong, judged, wrong-at, wrong-end}
 use Rattle.table_check.proofs.order.wrong_entry.Statement.{statement}
 use Rattle.table_check.proofs.order.wrong_entry.Tie as tie
 
@@ -20,31 +20,35 @@ Inv-loop heads seconds i₀ i = (i ≤ length heads) × (i ≤ length seconds) �
 abbrev μ-loop : tie.MeasureT-loop
 μ-loop heads seconds i₀ i = length heads - i
 
+-- all are well-formed
+returns : tie.Need-returns Inv-loop μ-loop
+returns c = sym (not-found _ (opposite _ _ (c .before .are-well-formed .ensures) ∙ ap not (c .if1 .taken)))
+
 loop-holds : tie.Need-loop-holds Inv-loop μ-loop
 unfolding first
 loop-holds c = (omega arith, omega arith, refl)
 
 -- what is_well_formed answered of entry i
 asked :
-    (c : tie.After-is-well-formed Inv-loop μ-loop) → let a = c .before .before .before .before .before .before .before .before .args in
+    (c : tie.After-is-well-formed Inv-loop μ-loop) → let a = c .before .before .before .before .before .before .before .before .before .before .args in
     wrong (a .heads .now) (a .seconds .now) (c .before .before .before .before .before .loop .i) ≡ not (c .is-well-formed .result)
 asked c = judged _ _ _ _ (omega arith) (omega (arith, ltb-true)) (c .is-well-formed .ensures)
 
-returns : tie.Need-returns Inv-loop μ-loop
-returns c =
+returns-2 : tie.Need-returns-2 Inv-loop μ-loop
+returns-2 c =
     let l = c .before .before .before .before .before .before .loop in
-    sym (wrong-at _ _ (l .i) (omega arith) (omega (arith, ltb-true)) (l .inv .2) (asked (c .before) ∙ c .if2 .taken))
+    sym (wrong-at _ _ (l .i) (omega arith) (omega (arith, ltb-true)) (l .inv .2) (asked (c .before) ∙ c .if3 .taken))
 
 loop-again : tie.Need-loop-again Inv-loop μ-loop
 loop-again c =
     let l = c .before .before .before .before .before .before .loop in
-    (omega arith, omega (arith, ltb-true), first-none-more (wrong _ _) (l .i) (l .inv .2) (asked (c .before) ∙ c .if2 .left))
-
-returns-2 : tie.Need-returns-2 Inv-loop μ-loop
-returns-2 c = sym (wrong-nowhere _ _ (c .before .before .loop .i) (omega (arith, ltb-false)) (c .before .before .loop .inv .2))
+    (omega arith, omega (arith, ltb-true), first-none-more (wrong _ _) (l .i) (l .inv .2) (asked (c .before) ∙ c .if3 .left))
 
 returns-3 : tie.Need-returns-3 Inv-loop μ-loop
-returns-3 c = sym (wrong-nowhere _ _ (c .before .loop .i) (omega arith) (c .before .loop .inv .2))
+returns-3 c = sym (sym (wrong-end _ _ (c .before .before .loop .i) (omega (arith, ltb-false))) ∙ c .before .before .loop .inv .2)
+
+returns-4 : tie.Need-returns-4 Inv-loop μ-loop
+returns-4 c = sym (sym (wrong-end _ _ (c .before .loop .i) (omega arith)) ∙ c .before .loop .inv .2)
 
 pub wrong-entry-spec : {M : Type 1} → statement M
 wrong-entry-spec =
@@ -52,15 +56,18 @@ wrong-entry-spec =
     (tie.spec
     Inv-loop
     μ-loop
+    (λ c κs. search needs)
+    returns
     loop-holds
+    (λ c. omega arith)
     (λ c. search needs)
     (λ c. search needs)
     (λ c. search needs)
     (λ c. search needs)
     (λ c κs. search needs)
-    returns
+    returns-2
     (λ c. search needs)
     (λ c. search needs)
     loop-again
-    returns-2
-    returns-3)
+    returns-3
+    returns-4)

@@ -1,0 +1,57 @@
+-- `table_check::order::are_well_formed` meets its contract. The loop's invariant: `so_far` says whether all entries
+-- before i are well-formed. Assumes nothing.
+use Prim.Native.Nat.{_≤_, _-_}
+use native.Mathlib.Omega.{arith}
+use mathlib.Core.Bool.{not}
+use mathlib.Core.Path.{_≡_, refl, ap, _∙_}
+use lib.ListN.{length}
+use borrow.Author.Needs.{needs}
+use borrow.Author.Tests.{ltb-true, ltb-false}
+use Rattle.basics.specs.First.{first, found}
+use Rattle.table_check.proofs.Scan.{wrong, judged, wrong-end, none-wrong-more}
+use Rattle.table_check.proofs.order.are_well_formed.Statement.{statement}
+use Rattle.table_check.proofs.order.are_well_formed.Tie as tie
+
+abbrev Inv-loop : tie.InvT-loop
+Inv-loop heads seconds so-far₀ i₀ so-far i =
+    (i ≤ length heads) × (i ≤ length seconds) × (so-far ≡ not (found (first (wrong heads seconds) i)))
+
+abbrev μ-loop : tie.MeasureT-loop
+μ-loop heads seconds so-far₀ i₀ so-far i = length heads - i
+
+loop-holds : tie.Need-loop-holds Inv-loop μ-loop
+unfolding first
+loop-holds c = (omega arith, omega arith, refl)
+
+loop-again : tie.Need-loop-again Inv-loop μ-loop
+loop-again c =
+    let l = c .before .before .before .before .before .loop in (
+      omega arith,
+      omega (arith, ltb-true),
+      none-wrong-more _ _ (l .i) (l .so-far) _ (l .inv .2) (judged _ _ _ _ (omega arith) (omega (arith, ltb-true)) (c .is-well-formed .ensures)),
+    )
+
+returns : tie.Need-returns Inv-loop μ-loop
+returns c = c .before .before .loop .inv .2 ∙ ap (λ p. not (found p)) (wrong-end _ _ (c .before .before .loop .i) (omega (arith, ltb-false)))
+
+returns-2 : tie.Need-returns-2 Inv-loop μ-loop
+returns-2 c = c .before .loop .inv .2 ∙ ap (λ p. not (found p)) (wrong-end _ _ (c .before .loop .i) (omega arith))
+
+pub are-well-formed-spec : {M : Type 1} → statement M
+are-well-formed-spec =
+    tie.close
+    (tie.spec
+    Inv-loop
+    μ-loop
+    loop-holds
+    (λ c. omega arith)
+    (λ c. search needs)
+    (λ c. search needs)
+    (λ c. search needs)
+    (λ c. search needs)
+    (λ c κs. search needs)
+    (λ c. search needs)
+    (λ c. search needs)
+    loop-again
+    returns
+    returns-2)
