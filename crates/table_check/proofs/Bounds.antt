@@ -49,7 +49,7 @@ by-kind (suc (suc (suc (suc (suc (suc kind)))))) one two i small =
     (both-none (ltb one (firstBound (suc (suc (suc (suc (suc (suc kind)))))) i)))
 
 -- So the test of the operands is test 4 of the entry.
-bounded :
+pub bounded :
     (i head second : ℕ)
     → both (ltb (lower head) (firstBound (upper head) i)) (ltb second (secondBound (upper head) i)) ≡ wellFormedAt i (entry head second)
 unfolding entry

@@ -2,23 +2,32 @@
 use Prim.Native.Nat.{ℕ, _+_, _<_, min}
 use native.Mathlib.Numerals.{add-one}
 use native.Mathlib.Omega.{arith}
-use mathlib.Core.Bool.{Bool, true, false, not, _&&_}
+use mathlib.Core.Bool.{Bool, true, false, not, _&&_, true≢false}
 use mathlib.Core.List.{List}
 use mathlib.Core.Path.{_≡_, refl, sym, ap, _∙_}
+use lib.Dec.{eqb}
 use lib.ListN.{length, getD}
+use borrow.Author.Tests.{eqb-true, eq-eqb}
 use Rattle.basics.specs.declared.place.Place.{Place}
 use Rattle.basics.specs.declared.place.Place.the-variants.{At, Nowhere}
 use Rattle.basics.specs.Choice.{pick}
 use Rattle.basics.specs.First.{orElse, first, found}
-use Rattle.basics.proofs.First.{first-none-more, first-at}
+use Rattle.basics.proofs.Choice.{both-true}
+use Rattle.basics.proofs.First.{first-place, no-place, found-at, is-found, first-at}
 use Rattle.table.specs.Entry.{entry}
 use Rattle.table.specs.Tests.{entries, entryAt, wellFormedAt, wrongEntry, same, repeatedEntry}
 use Rattle.table.proofs.Entries.{length-entries, entry-at}
+use Rattle.table_check.specs.Index.{isRepeated}
 
 -- Of two opposite answers, each is the opposite of the other.
 pub opposite : (a b : Bool) → b ≡ not a → a ≡ not b
 opposite true b e = sym (ap not e)
 opposite false b e = sym (ap not e)
+
+-- A test that can't be true is false.
+pub untrue : (b : Bool) → (b ≡ true → ⊥) → b ≡ false
+untrue true h = absurd (h refl)
+untrue false h = refl
 
 -- No fault is found in one place more exactly when none was, and here is none.
 one-more : (p : Place) (b here : Bool) (n : ℕ) → here ≡ not b → (not (found p) && b) ≡ not (found (orElse p (pick here (At n) Nowhere)))
@@ -52,22 +61,33 @@ module _ (hs ss : List ℕ) where
   unfolding first
   none-wrong-more i so-far b e asked = rw (e, add-one i) (one-more (first wrong i) b (wrong i) i asked)
 
-  -- Entry i has the head and second of an earlier one.
-  abbrev pub repeated : ℕ → Bool
-  repeated i = found (first (same hs ss i) i)
+  -- Entries with the same head and the same second are the same, and only those.
+  pub same-parts : (i j : ℕ) → same hs ss i j ≡ true → (getD hs i 0 ≡ getD hs j 0) × (getD ss i 0 ≡ getD ss j 0)
+  same-parts i j e =
+      let (h, s) = both-true (eqb (getD hs i 0) (getD hs j 0)) (eqb (getD ss i 0) (getD ss j 0)) .0 e in
+      (eqb-true _ _ h, eqb-true _ _ s)
 
-  -- Entry i is repeated, since it is not new, and none before it is: 5 answers i.
+  pub same-whole : (i j : ℕ) → getD hs i 0 ≡ getD hs j 0 → getD ss i 0 ≡ getD ss j 0 → same hs ss i j ≡ true
+  same-whole i j h s = both-true (eqb (getD hs i 0) (getD hs j 0)) (eqb (getD ss i 0) (getD ss j 0)) .1 (eq-eqb _ _ h, eq-eqb _ _ s)
+
+  -- An entry that is the same as an earlier one is repeated, and only such.
+  pub earlier-same : (i j : ℕ) → j < i → same hs ss i j ≡ true → isRepeated hs ss i ≡ true
+  earlier-same i j l e =
+      is-found (first (same hs ss i) i) (λ none. true≢false (sym e ∙ no-place (same hs ss i) i .0 none j l))
+
+  pub repeats : (i : ℕ) → isRepeated hs ss i ≡ true → (j : ℕ) × (j < i) × (same hs ss i j ≡ true)
+  repeats i t =
+      let (j, at) = found-at (first (same hs ss i) i) t in
+      let is = first-place (same hs ss i) (λ k. same hs ss i k ≡ true) i (λ k l. (λ e. e, λ e. e)) j .0 at in
+      (j, is .within, is .is-fault)
+
+  -- Entry i is repeated and none before it is: 5 answers i.
   pub repeated-at :
-      (i : ℕ) (new : Bool) → i < length hs → first repeated i ≡ Nowhere → new ≡ not (repeated i) → not new ≡ true → repeatedEntry hs ss ≡ At i
+      (i : ℕ) → i < length hs → first (isRepeated hs ss) i ≡ Nowhere → isRepeated hs ss i ≡ true → At i ≡ repeatedEntry hs ss
   unfolding repeatedEntry
-  repeated-at i new in-heads none asked here = first-at repeated (length hs) i none (opposite (repeated i) new asked ∙ here) in-heads
-
-  -- Entry i is new, and none before it is repeated.
-  pub repeated-none-more :
-      (i : ℕ) (new : Bool) → first repeated i ≡ Nowhere → new ≡ not (repeated i) → not new ≡ false → first repeated (i + 1) ≡ Nowhere
-  repeated-none-more i new none asked here = first-none-more repeated i none (opposite (repeated i) new asked ∙ here)
+  repeated-at i in-heads none here = sym (first-at (isRepeated hs ss) (length hs) i none here in-heads)
 
   -- None is repeated: 5 finds no fault.
-  pub repeated-nowhere : (i : ℕ) → i ≡ length hs → first repeated i ≡ Nowhere → repeatedEntry hs ss ≡ Nowhere
+  pub repeated-nowhere : (i : ℕ) → i ≡ length hs → first (isRepeated hs ss) i ≡ Nowhere → Nowhere ≡ repeatedEntry hs ss
   unfolding repeatedEntry
   repeated-nowhere i end none = cc

@@ -1,25 +1,21 @@
 -- The search through a tree, by which test 5 answers whether an entry stands earlier. Assumes nothing.
 use Prim.Native.Nat.{ℕ, _+_, _*_, _/_, _-_, _<_, _≤_}
-use native.Mathlib.Nat.{mod-lt}
 use native.Mathlib.Omega.{arith}
 use mathlib.Core.Bool.{Bool, true, false, true≢false}
 use mathlib.Core.List.{List}
-use mathlib.Core.Path.{_≡_, refl, sym, ap, subst, _∙_}
-use lib.Dec.{eqb}
+use mathlib.Core.Path.{_≡_, refl, sym, subst, _∙_}
 use lib.ListN.{length, getD, set}
 use lib.Seq.{getD-set-same}
-use borrow.Author.Tests.{eqb-true}
-use Rattle.basics.specs.First.{first, found}
-use Rattle.basics.proofs.Choice.{both-true}
-use Rattle.basics.proofs.First.{no-place, is-found}
+use Rattle.basics.specs.declared.place.Place.{Place}
 use Rattle.table.specs.Tests.{same}
-use Rattle.table_check.specs.Index.{root, key, onward, Meets, here, further, Found, Indexed}
+use Rattle.table_check.specs.Index.{root, key, onward, Meets, here, further, isRepeated, Found, Indexed, Told, Answers}
+use Rattle.table_check.specs.declared.by_index.Search.{Search}
+use Rattle.table_check.specs.declared.by_index.Search.the-variants.{Ended}
+use Rattle.table_check.specs.declared.by_index.Taken.{Taken}
+use Rattle.table_check.specs.declared.by_index.Taken.the-variants.{In, Repeated}
+use Rattle.table_check.proofs.Roots.{root-below}
+use Rattle.table_check.proofs.Scan.{untrue, same-parts, earlier-same, repeats}
 use Rattle.table_check.proofs.Trees.{kept, indexed-more}
-
--- A test that can't be true is false.
-untrue : (b : Bool) → (b ≡ true → ⊥) → b ≡ false
-untrue true h = absurd (h refl)
-untrue false h = refl
 
 -- From an empty slot nothing is met.
 meets-none : (roots : ℕ) (slots : List ℕ) (k p x : ℕ) → getD slots p 0 ≡ 0 → Meets roots slots k p x → ⊥
@@ -39,8 +35,8 @@ module _ (hs ss : List ℕ) (roots : ℕ) (slots : List ℕ) (i : ℕ) where
   -- What is the same is searched for on the same path.
   same-path : (k : ℕ) → same hs ss i k ≡ true → Found hs ss roots slots k k → Found hs ss roots slots i k
   same-path k e m =
-      let (p, q) = both-true (eqb (getD hs i 0) (getD hs k 0)) (eqb (getD ss i 0) (getD ss k 0)) .0 e in
-      rw (eqb-true (getD hs i 0) (getD hs k 0) p, eqb-true (getD ss i 0) (getD ss k 0) q) m
+      let (head, second) = same-parts hs ss i k e in
+      rw (head, second) m
 
   -- The search for entry i has come to slot p, which holds a link, with the bits x: an earlier entry that is the same
   -- is met from there. And entry i is found where it is met from there, once it is written into a slot e that is empty
@@ -60,7 +56,7 @@ module _ (hs ss : List ℕ) (roots : ℕ) (slots : List ℕ) (i : ℕ) where
         record {
           holds = refl;
           earlier = index .known p;
-          before = omega (arith, mod-lt (getD hs i 0 + getD ss i 0 * 5061) (index .some-root));
+          before = omega (arith, root-below ((getD hs i 0 + getD ss i 0 * 5061) * 40503) roots (index .some-root));
           ahead = λ k l e. rw (at, bits) (same-path k e (index .each k l));
           leads = λ e empty m. rw (at, bits) at m;
         }
@@ -91,10 +87,8 @@ module _ (hs ss : List ℕ) (roots : ℕ) (slots : List ℕ) (i : ℕ) where
             }
 
         -- (if it is, one is found),
-        pub search-finds : same hs ss i (link - 1) ≡ true → found (first (same hs ss i) i) ≡ true
-        search-finds e =
-            is-found (first (same hs ss i) i)
-            (λ none. true≢false (sym e ∙ no-place (same hs ss i) i .0 none (link - 1) (omega (arith, s .earlier))))
+        pub search-finds : same hs ss i (link - 1) ≡ true → isRepeated hs ss i ≡ true
+        search-finds = earlier-same hs ss i (link - 1) (omega (arith, s .earlier))
 
       -- and ends where there is none:
       module _ (none : link ≤ 0) where
@@ -102,14 +96,24 @@ module _ (hs ss : List ℕ) (roots : ℕ) (slots : List ℕ) (i : ℕ) where
         empty = omega (arith, s .holds)
 
         -- no entry is the same,
-        pub search-ends : found (first (same hs ss i) i) ≡ false
+        pub search-ends : isRepeated hs ss i ≡ false
         search-ends =
-            ap found
-            (no-place (same hs ss i) i .1
-            (λ j l. untrue (same hs ss i j) (λ e. meets-none roots slots j p x empty (s .ahead j l e))))
+            untrue (isRepeated hs ss i)
+            (λ t. let (j, l, e) = repeats hs ss i t in meets-none roots slots j p x empty (s .ahead j l e))
 
         -- and entry i is written there.
         pub search-writes : i < length hs → Indexed hs ss roots (set slots p (i + 1)) (i + 1)
         search-writes small =
             indexed-more hs ss roots slots i p index small empty (s .before)
             (s .leads p empty (here (getD-set-same slots p (i + 1) 0 (omega (arith, s .before, index .room)))))
+
+-- What is told of an entry that is in, and of one that is repeated.
+pub told-in : (r : Taken) (b : Bool) (I : Type 0) → Told r b I → r ≡ In → (b ≡ false) × I
+told-in r b I t e = subst (λ q. Told q b I) e t
+
+pub told-repeated : (r : Taken) (b : Bool) (I : Type 0) → Told r b I → r ≡ Repeated → b ≡ true
+told-repeated r b I t e = subst (λ q. Told q b I) e t
+
+-- A search that ended has the answer.
+pub ended : (r : Search) (place answer : Place) → Answers r answer → r ≡ Ended place → place ≡ answer
+ended r place answer a e = subst (λ q. Answers q answer) e a

@@ -7,13 +7,23 @@ use mathlib.Core.Path.{_≡_, refl, sym, ap, _∙_}
 use lib.ListN.{length, getD, set, replicate, length-set, length-replicate}
 use lib.Seq.{getD-set-same, getD-set-other}
 use borrow.Author.Count.{below-more}
-use Rattle.table_check.specs.Index.{Meets, here, further, Found, Indexed}
+use Rattle.table_check.specs.Index.{Meets, here, further, Found, Indexed, Cleared}
 
 -- Of zeros, each is 0.
-zeros : (n p : ℕ) → getD (replicate {A = ℕ} n 0) p 0 ≡ 0
+pub zeros : (n p : ℕ) → getD (replicate {A = ℕ} n 0) p 0 ≡ 0
 zeros zero p = refl
 zeros (suc n) zero = refl
 zeros (suc n) (suc p) = zeros n p
+
+-- Slots of zeros have no link.
+pub cleared : (roots n : ℕ) → 0 < roots → roots ≤ n → n < 65536 → Cleared roots (replicate n 0)
+cleared roots n some room few =
+    record {
+      some-root = some;
+      root-slots = omega (arith, length-replicate {A = ℕ} n 0);
+      few = omega (arith, length-replicate {A = ℕ} n 0);
+      empty = zeros n;
+    }
 
 -- A slot that is empty stands on no path: what is written there leaves the others as they were,
 pub kept : (slots : List ℕ) (e v p l : ℕ) → getD slots e 0 ≡ 0 → getD slots p 0 ≡ l + 1 → getD (set slots e v) p 0 ≡ l + 1
@@ -28,16 +38,21 @@ meets-kept roots slots k e v empty {p} {x} (further j h m) = further j (kept slo
 
 module _ (hs ss : List ℕ) (roots : ℕ) where
   -- It begins with no link.
-  pub indexed-none : (n : ℕ) → 0 < roots → roots + 2 * length hs ≤ n → n < 65536 → Indexed hs ss roots (replicate n 0) 0
-  indexed-none n some room few =
+  pub indexed-none : (slots : List ℕ) → Cleared roots slots → roots + 2 * length hs ≤ length slots → Indexed hs ss roots slots 0
+  indexed-none slots clear room =
       record {
-        some-root = some;
-        room = omega (arith, length-replicate {A = ℕ} n 0);
-        few = omega (arith, length-replicate {A = ℕ} n 0);
-        known = λ p. omega (arith, zeros n p);
-        rises = λ p j l. absurd (omega (arith, zeros n p));
+        some-root = clear .some-root;
+        room = room;
+        few = clear .few;
+        known = λ p. omega (arith, clear .empty p);
+        rises = λ p j l. absurd (omega (arith, clear .empty p));
         each = λ k l. absurd (omega arith);
       }
+
+  -- So does one in slots of zeros.
+  pub indexed-new : (n : ℕ) → 0 < roots → roots + 2 * length hs ≤ n → n < 65536 → Indexed hs ss roots (replicate n 0) 0
+  indexed-new n some room few =
+      indexed-none (replicate n 0) (cleared roots n some (omega arith) few) (omega (arith, length-replicate {A = ℕ} n 0))
 
   -- Entry n is written into an empty slot e, to which its own path leads.
   module _ (slots : List ℕ) (n e : ℕ) (old : Indexed hs ss roots slots n) (small : n < length hs) (empty : getD slots e 0 ≡ 0)

@@ -1,16 +1,24 @@
 -- How test 5 finds an earlier entry with the same head and second: by an index of digital search trees in one array of
 -- slots. The first `roots` slots lead to the trees' first entries, and then two slots for each entry lead on from it,
 -- one for a key whose next bit is 0 and one for 1. A slot holds a link, one more than the number of an entry, or 0 for
--- none. Only private functions of src/repeat.rt speak of this; what test 5 answers is `repeatedEntry` of `table`, where
--- no slot stands. Assumes nothing.
+-- none. Only private functions of src/by_index.rt and src/repeat.rt speak of this; what test 5 answers is `repeatedEntry`
+-- of `table`, where no slot stands. Assumes nothing.
 use Prim.Native.Nat.{ℕ, _+_, _*_, _/_, _%_, _<_, _≤_}
+use mathlib.Core.Bool.{Bool, true, false}
 use mathlib.Core.List.{List}
 use mathlib.Core.Path.{_≡_}
 use lib.ListN.{length, getD}
+use Rattle.basics.specs.declared.place.Place.{Place}
+use Rattle.basics.specs.First.{first, found}
+use Rattle.table.specs.Tests.{same}
+use Rattle.table_check.specs.declared.by_index.Taken.{Taken}
+use Rattle.table_check.specs.declared.by_index.Taken.the-variants.{In, Repeated, TooDeep}
+use Rattle.table_check.specs.declared.by_index.Search.{Search}
+use Rattle.table_check.specs.declared.by_index.Search.the-variants.{Ended, GivenUp}
 
 -- the root of a head and a second: any function would do for what is promised; this one is for speed
 abbrev pub root : ℕ → ℕ → ℕ → ℕ
-root roots head second = (head + second * 5061) % roots
+root roots head second = (head + second * 5061) * 40503 % 65536 * roots / 65536
 
 -- the number whose bits, from the lowest, lead through a tree
 abbrev pub key : ℕ → ℕ → ℕ
@@ -31,6 +39,10 @@ module _ (heads seconds : List ℕ) where
     pub in-heads : i < length heads
     pub in-seconds : i < length seconds
 
+  -- an earlier entry has the head and second of entry i
+  abbrev pub isRepeated : ℕ → Bool
+  isRepeated i = found (first (same heads seconds i) i)
+
   -- the search for an entry with the head and second of i, from their root, meets entry k
   abbrev pub Found : ℕ → List ℕ → ℕ → ℕ → Type 0
   Found roots slots i k =
@@ -44,3 +56,21 @@ module _ (heads seconds : List ℕ) where
     pub known : (p : ℕ) → getD slots p 0 ≤ n
     pub rises : (p j : ℕ) → getD slots p 0 ≡ j + 1 → p < roots + 2 * j
     pub each : (k : ℕ) → k < n → Found roots slots k k
+
+-- slots for an index, with no link yet
+pub record Cleared (roots : ℕ) (slots : List ℕ) : Type 0 where
+  pub some-root : 0 < roots
+  pub root-slots : roots ≤ length slots
+  pub few : length slots < 65536
+  pub empty : (p : ℕ) → getD slots p 0 ≡ 0
+
+-- what is told of an entry that was to be taken in, where Index says that it stands in the index
+abbrev pub Told : Taken → Bool → Type 0 → Type 0
+Told In isRepeated Index = (isRepeated ≡ false) × Index
+Told Repeated isRepeated Index = isRepeated ≡ true
+Told TooDeep isRepeated Index = Unit
+
+-- a search that ended has the answer; one that was given up has none
+abbrev pub Answers : Search → Place → Type 0
+Answers (Ended place) answer = place ≡ answer
+Answers GivenUp answer = Unit

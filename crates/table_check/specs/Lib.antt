@@ -2,3 +2,4 @@
 -- specs/Tests.antt.
 pub mod Bounds
 pub mod Index
+pub mod Chains

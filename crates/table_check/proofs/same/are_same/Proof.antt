@@ -1,9 +1,9 @@
--- `table_check::repeat::are_same` meets its contract: the seconds are compared only if the heads are equal. Assumes
+-- `table_check::same::are_same` meets its contract: the seconds are compared only if the heads are equal. Assumes
 -- nothing.
 use native.Mathlib.Omega.{arith}
 use borrow.Author.Tests.{eq-eqb, ne-eqb}
-use Rattle.table_check.proofs.repeat.are_same.Statement.{statement}
-use Rattle.table_check.proofs.repeat.are_same.Tie as tie
+use Rattle.table_check.proofs.same.are_same.Statement.{statement}
+use Rattle.table_check.proofs.same.are_same.Tie as tie
 
 returns : tie.Need-returns
 returns c = rw (eq-eqb _ _ (c .before .before .if1 .taken))

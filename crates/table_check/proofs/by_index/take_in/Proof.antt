@@ -1,4 +1,4 @@
--- `table_check::repeat::take_in` meets its contract. The loop's invariant: an earlier entry that is the same as i is
+-- `table_check::by_index::take_in` meets its contract. The loop's invariant: an earlier entry that is the same as i is
 -- met from the slot that the search has come to. The measure falls since links rise along a path. Assumes nothing.
 use Prim.Native.Nat.{_+_, _*_, _-_}
 use native.Mathlib.Omega.{arith}
@@ -7,14 +7,17 @@ use mathlib.Core.Path.{sym, ap, _∙_}
 use borrow.Author.Needs.{needs}
 use Rattle.table_check.specs.Index.{onward}
 use Rattle.table_check.proofs.Search.{Searched, search-starts, search-rises, search-steps, search-finds, search-ends, search-writes}
-use Rattle.table_check.proofs.repeat.take_in.Statement.{statement}
-use Rattle.table_check.proofs.repeat.take_in.Tie as tie
+use Rattle.table_check.proofs.by_index.take_in.Statement.{statement}
+use Rattle.table_check.proofs.by_index.take_in.Tie as tie
 
 abbrev Inv-loop : tie.InvT-loop
-Inv-loop heads seconds slots roots i head second bits₀ at₀ link₀ bits at link = Searched heads seconds roots slots i at bits link
+Inv-loop heads seconds slots roots most i head second bits₀ at₀ link₀ left₀ bits at link left = Searched heads seconds roots slots i at bits link
 
 abbrev μ-loop : tie.MeasureT-loop
-μ-loop heads seconds slots roots i head second bits₀ at₀ link₀ bits at link = roots + 2 * i - at
+μ-loop heads seconds slots roots most i head second bits₀ at₀ link₀ left₀ bits at link left = roots + 2 * i - at
+
+root-of-requires : tie.Need-root-of-requires Inv-loop μ-loop
+root-of-requires c κs = omega (arith, c .before .before .before .before .before .before .pre .1 .room)
 
 mul-link : tie.Need-mul-link Inv-loop μ-loop
 mul-link c =
@@ -44,40 +47,33 @@ are-same-requires c κs =
 returns : tie.Need-returns Inv-loop μ-loop
 returns c =
     let p = c .before .before .before .before .before .before .before .before .before .before .before .before .pre in
-    let l = c .before .before .before .loop in (
-      sym
-          (ap not
-          (search-finds _ _ _ _ _ (p .1) _ _ _ (l .inv) (c .before .before .loop-test .taken)
-          (sym (c .before .are-same .ensures) ∙ c .if1 .taken))),
-      λ t. absurd (false≢true t),
-    )
+    let l = c .before .before .before .loop in
+    search-finds _ _ _ _ _ (p .1) _ _ _ (l .inv) (c .before .before .loop-test .taken) (sym (c .before .are-same .ensures) ∙ c .if1 .taken)
 
 cast-link-2 : tie.Need-cast-link-2 Inv-loop μ-loop
 cast-link-2 c =
-    let o = c .before .before .before .before .before .before .before .before .before .before .before .before .before in
-    let l = c .before .before .before .before .loop in
+    let o = c .before .before .before .before .before .before .before .before .before .before .before .before .before .before in
+    let l = c .before .before .before .before .before .loop in
     omega (arith, o .pre .1 .known (onward (o .args .roots) (l .link - 1) (l .bits)))
 
 loop-less : tie.Need-loop-less Inv-loop μ-loop
 loop-less c =
-    let p = c .before .before .before .before .before .before .before .before .before .before .before .before .before .pre in
-    let l = c .before .before .before .before .loop in
-    omega (arith, search-rises _ _ _ _ _ (p .1) _ _ _ (l .inv) (c .before .before .before .loop-test .taken))
+    let p = c .before .before .before .before .before .before .before .before .before .before .before .before .before .before .pre in
+    let l = c .before .before .before .before .before .loop in
+    omega (arith, search-rises _ _ _ _ _ (p .1) _ _ _ (l .inv) (c .before .before .before .before .loop-test .taken))
 
 loop-again : tie.Need-loop-again Inv-loop μ-loop
 loop-again c =
-    let p = c .before .before .before .before .before .before .before .before .before .before .before .before .before .pre in
-    let l = c .before .before .before .before .loop in
-    search-steps _ _ _ _ _ (p .1) _ _ _ (l .inv) (c .before .before .before .loop-test .taken)
-    (sym (c .before .before .are-same .ensures) ∙ c .before .if1 .left)
+    let p = c .before .before .before .before .before .before .before .before .before .before .before .before .before .before .pre in
+    let l = c .before .before .before .before .before .loop in
+    search-steps _ _ _ _ _ (p .1) _ _ _ (l .inv) (c .before .before .before .before .loop-test .taken)
+    (sym (c .before .before .before .are-same .ensures) ∙ c .before .before .if1 .left)
 
-returns-2 : tie.Need-returns-2 Inv-loop μ-loop
-returns-2 c =
+returns-3 : tie.Need-returns-3 Inv-loop μ-loop
+returns-3 c =
     let p = c .before .before .before .before .before .before .before .before .before .before .pre in
-    let l = c .before .loop in (
-      sym (ap not (search-ends _ _ _ _ _ (p .1) _ _ _ (l .inv) (omega arith))),
-      λ t. search-writes _ _ _ _ _ (p .1) _ _ _ (l .inv) (omega arith) (p .0 .in-heads),
-    )
+    let l = c .before .loop in
+    (search-ends _ _ _ _ _ (p .1) _ _ _ (l .inv) (omega arith), search-writes _ _ _ _ _ (p .1) _ _ _ (l .inv) (omega arith) (p .0 .in-heads))
 
 pub take-in-spec : {M : Type 1} → statement M
 take-in-spec =
@@ -90,7 +86,7 @@ take-in-spec =
     (λ c. omega arith)
     (λ c. omega arith)
     (λ c κs. search needs)
-    (λ c κs. search needs)
+    root-of-requires
     mul-link
     slice-read-link
     cast-link
@@ -98,6 +94,8 @@ take-in-spec =
     (λ c. omega arith)
     are-same-requires
     returns
+    (λ c. search needs)
+    (λ c. omega arith)
     (λ c. omega arith)
     (λ c. omega arith)
     (λ c. omega arith)
@@ -111,4 +109,4 @@ take-in-spec =
     (λ c. omega arith)
     (λ c. omega arith)
     (λ c. search needs)
-    returns-2)
+    returns-3)
