@@ -17,7 +17,7 @@ use basics::place::Place;
 const HEADS: usize = 6 * MOST_ATOMS;
 
 // No entry has this number.
-const NONE: u16 = 4096;
+const NONE: u16 = MOST_FORMULAS as u16;
 
 // Chains the entries of each head: `first` has at a head the first entry with it, `next` at an entry the next one with
 // its head, or a number that is no entry.

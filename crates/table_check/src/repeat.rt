@@ -34,10 +34,10 @@ const MANY_ROOTS: usize = 4096;
 
 const MOST_ROOTS: usize = 16384;
 
-// So many entries are passed on a path of a large index. More are rare in tables that were not made for it.
+// On a path of a large index so many entries are passed: only tables that are made for it have longer ones.
 const SHORT: usize = 6;
 
-// The first entry that has the head and second of an earlier one, of many.
+// The first of many entries that has the head and second of an earlier one.
 fn repeated_of_many(heads: &[u16], seconds: &[u16]) -> Place
     requires { ⌜ AfterFour (now heads) (now seconds) ⌝ }
     ensures { λ r. ⌜ r ≡ repeatedEntry (now (heads .entry)) (now (seconds .entry)) ⌝ }
@@ -56,9 +56,9 @@ fn repeated_of_many(heads: &[u16], seconds: &[u16]) -> Place
     repeated_by_head(heads, seconds)
 }
 
-// The same of any number, by an index in the slots that are lent; where they are too few, it lends itself more. A
-// function that calls itself keeps the large arrays of those that it calls out of its own frame, which would be cleared
-// page by page for a small table, too.
+// The same of any number of entries, by an index in the slots that are lent; where these are too few, it lends itself
+// more. A function that calls itself doesn't take in those that have large arrays, so that these are no part of the frame
+// for a small table, where they would cost more than the whole search.
 fn repeated_in(heads: &[u16], seconds: &[u16], slots: &mut [u16], roots: usize) -> Place
     requires { ⌜ AfterFour (now heads) (now seconds) × Cleared roots (now slots) ⌝ }
     ensures { λ r. ⌜ r ≡ repeatedEntry (now (heads .entry)) (now (seconds .entry)) ⌝ }
@@ -68,10 +68,6 @@ fn repeated_in(heads: &[u16], seconds: &[u16], slots: &mut [u16], roots: usize) 
             return place;
         }
         return repeated_by_head(heads, seconds);
-    }
-    if heads.len() <= FEW {
-        let mut few = [0u16; FEW_ROOTS + 2 * FEW];
-        return repeated_in(heads, seconds, &mut few, FEW_ROOTS);
     }
     if heads.len() <= SOME {
         let mut some = [0u16; SOME_ROOTS + 2 * SOME];
@@ -86,6 +82,18 @@ pub(crate) fn repeated_entry(heads: &[u16], seconds: &[u16]) -> Place
     requires { ⌜ (length (now heads) ≡ length (now seconds)) × (length (now heads) ≤ mostFormulas) × (wrongEntry (entries (now heads) (now seconds)) ≡ Nowhere) ⌝ }
     ensures { λ r. ⌜ r ≡ repeatedEntry (now (heads .entry)) (now (seconds .entry)) ⌝ }
 {
-    let mut slots = [0u16; FEWEST_ROOTS + 2 * FEWEST];
-    repeated_in(heads, seconds, &mut slots, FEWEST_ROOTS)
+    if heads.len() <= FEWEST {
+        let mut slots = [0u16; FEWEST_ROOTS + 2 * FEWEST];
+        if let Search::Ended(place) = repeated_by(
+            heads,
+            seconds,
+            &mut slots,
+            FEWEST_ROOTS,
+            FEWEST,
+        ) {
+            return place;
+        }
+    }
+    let mut slots = [0u16; FEW_ROOTS + 2 * FEW];
+    repeated_in(heads, seconds, &mut slots, FEW_ROOTS)
 }

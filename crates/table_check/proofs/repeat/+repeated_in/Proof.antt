@@ -57,11 +57,6 @@ returns t c = ended _ _ _ (c .before .before .before .before .before .repeated-b
 repeated-in-requires : (t : ℕ) → lts.Need-repeated-in-requires (claims t) (at t) repeated-in.Post
 repeated-in-requires t c κs =
     let p = c .before .before .before .before .before .before .pre in
-    (omega (arith, p .0), (p .1 .0, cleared 128 256 (omega arith) (omega arith) (omega arith)))
-
-repeated-in-requires-2 : (t : ℕ) → lts.Need-repeated-in-requires-2 (claims t) (at t) repeated-in.Post
-repeated-in-requires-2 t c κs =
-    let p = c .before .before .before .before .before .before .before .pre in
     (omega (arith, p .0), (p .1 .0, cleared 512 1024 (omega arith) (omega arith) (omega arith)))
 
 pub +repeated-in-spec : {M : Type 1} → statement M
@@ -80,9 +75,6 @@ pub +repeated-in-spec : {M : Type 1} → statement M
     (λ c. search needs)
     (λ c. search needs)
     (repeated-in-requires t)
-    (λ c. search needs)
-    (λ c. search needs)
-    (repeated-in-requires-2 t)
     (λ c. search needs)
     (λ c κs. search needs)
     (λ c. search needs)

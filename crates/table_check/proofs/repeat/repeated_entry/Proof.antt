@@ -1,15 +1,34 @@
--- `table_check::repeat::repeated_entry` meets its contract: it lends slots that have no link yet. Assumes nothing.
+-- `table_check::repeat::repeated_entry` meets its contract: the slots have no link yet, and an index for the fewest has
+-- room for them. Assumes nothing.
 use native.Mathlib.Omega.{arith}
 use borrow.Author.Needs.{needs}
 use Rattle.table_check.proofs.AfterFour.{after-four}
-use Rattle.table_check.proofs.Trees.{cleared}
+use Rattle.table_check.proofs.Trees.{cleared, indexed-new}
+use Rattle.table_check.proofs.Search.{ended}
 use Rattle.table_check.proofs.repeat.repeated_entry.Statement.{statement}
 use Rattle.table_check.proofs.repeat.repeated_entry.Tie as tie
 
+repeated-by-requires : tie.Need-repeated-by-requires
+repeated-by-requires c κs =
+    (c .before .before .before .before .pre .0, indexed-new _ _ 16 32 (omega arith) (omega arith) (omega arith))
+
+returns : tie.Need-returns
+returns c = ended _ _ _ (c .before .before .before .before .repeated-by .ensures) (c .before .place .given .1)
+
 repeated-in-requires : tie.Need-repeated-in-requires
 repeated-in-requires c κs =
-    let p = c .before .before .before .pre in
-    (after-four _ _ (p .0) (p .1) (p .2), cleared 16 32 (omega arith) (omega arith) (omega arith))
+    let p = c .before .before .before .before .pre in
+    (after-four _ _ (p .0) (p .1) (p .2), cleared 128 256 (omega arith) (omega arith) (omega arith))
 
 pub repeated-entry-spec : {M : Type 1} → statement M
-repeated-entry-spec = tie.close (tie.spec (λ c. search needs) repeated-in-requires (λ c. search needs))
+repeated-entry-spec =
+    tie.close
+    (tie.spec
+    (λ c. search needs)
+    repeated-by-requires
+    (λ c. search needs)
+    returns
+    (λ c. search needs)
+    (λ c. search needs)
+    repeated-in-requires
+    (λ c. search needs))
