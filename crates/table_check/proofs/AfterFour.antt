@@ -34,7 +34,7 @@ module _ (hs ss : List ℕ) (alike : length hs ≡ length ss) (few : length hs �
   -- 4 passed each entry.
   well-formed : (i : ℕ) → i < length hs → wellFormedAt i (entry (getD hs i 0) (getD ss i 0)) ≡ true
   well-formed i l =
-      let none = wrong-end hs ss (length hs) (omega arith) ∙ passed in
+      let none = wrong-end hs ss (length hs) alike refl ∙ passed in
       not-false (wellFormedAt i (entry (getD hs i 0) (getD ss i 0)))
       (sym (judged hs ss i (wellFormedAt i (entry (getD hs i 0) (getD ss i 0))) l (omega arith) refl) ∙ no-place (wrong hs ss) (length hs) .0 none i l)
 

@@ -1,5 +1,5 @@
 -- The faults that tests 4 and 5 look for, as a loop over both arrays finds them. Assumes nothing.
-use Prim.Native.Nat.{ℕ, _+_, _<_, min}
+use Prim.Native.Nat.{ℕ, _+_, _<_}
 use native.Mathlib.Numerals.{add-one}
 use native.Mathlib.Omega.{arith}
 use mathlib.Core.Bool.{Bool, true, false, not, _&&_, true≢false}
@@ -50,10 +50,12 @@ module _ (hs ss : List ℕ) where
   unfolding wrongEntry
   wrong-at i in-heads in-seconds none here = first-at wrong (length (entries hs ss)) i none here (omega (arith, length-entries hs ss))
 
-  -- At the end of the shorter array 4 has its answer.
-  pub wrong-end : (i : ℕ) → i ≡ min (length hs) (length ss) → first wrong i ≡ wrongEntry (entries hs ss)
+  -- At the end of the table 4 has its answer.
+  pub wrong-end : (i : ℕ) → length hs ≡ length ss → i ≡ length hs → first wrong i ≡ wrongEntry (entries hs ss)
   unfolding wrongEntry
-  wrong-end i end = cc (length-entries hs ss)
+  wrong-end i alike end =
+      let all : i ≡ length (entries hs ss) = omega (arith, length-entries hs ss) in
+      ap (first wrong) all
 
   -- Entry i is well-formed or not, as b says, and `so-far` says that of all before it.
   pub none-wrong-more :

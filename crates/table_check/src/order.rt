@@ -54,29 +54,28 @@ fn is_well_formed(i: u16, head: u16, second: u16) -> bool
 
 // Whether all entries are well-formed. There is no way out before the end: this is what makes it fast.
 fn are_well_formed(heads: &[u16], seconds: &[u16]) -> bool
-    requires { ⌜ length (now heads) ≤ mostFormulas ⌝ }
+    requires { ⌜ (length (now heads) ≡ length (now seconds)) × (length (now heads) ≤ mostFormulas) ⌝ }
     ensures { λ r. ⌜ r ≡ not (found (wrongEntry (entries (now (heads .entry)) (now (seconds .entry))))) ⌝ }
 {
     let mut so_far = true;
     let mut i = 0;
-    while i < heads.len() && i < seconds.len() {
+    while i < heads.len() {
         so_far = so_far & is_well_formed(i as u16, heads[i], seconds[i]);
         i += 1;
     }
     so_far
 }
 
-// "4. An entry has kind 6 or more or a wrong operand (place: the first such entry)." Of arrays of unlike length, as far
-// as both go.
+// "4. An entry has kind 6 or more or a wrong operand (place: the first such entry)."
 pub(crate) fn wrong_entry(heads: &[u16], seconds: &[u16]) -> Place
-    requires { ⌜ length (now heads) ≤ mostFormulas ⌝ }
+    requires { ⌜ (length (now heads) ≡ length (now seconds)) × (length (now heads) ≤ mostFormulas) ⌝ }
     ensures { λ r. ⌜ r ≡ wrongEntry (entries (now (heads .entry)) (now (seconds .entry))) ⌝ }
 {
     if are_well_formed(heads, seconds) {
         return Place::Nowhere;
     }
     let mut i = 0;
-    while i < heads.len() && i < seconds.len() {
+    while i < heads.len() {
         if !is_well_formed(i as u16, heads[i], seconds[i]) {
             return Place::At(i);
         }

@@ -20,7 +20,7 @@ passed-2 c = sym (c .before .is-sized .ensures) ∙ not-false _ (c .if1 .left)
 wrong-entry-requires : tie.Need-wrong-entry-requires
 wrong-entry-requires c κs =
     let a = c .before .before .before .before .args in
-    sizes (a .heads .now) (a .seconds .now) (passed-2 c) .1
+    sizes (a .heads .now) (a .seconds .now) (passed-2 c)
 
 returns-2 : tie.Need-returns-2
 returns-2 c = sym (refused-4 _ _ (passed-2 (c .before .before .before .before)) _ (sym (c .before .before .before .wrong-entry .ensures) ∙ c .before .i .given .1))

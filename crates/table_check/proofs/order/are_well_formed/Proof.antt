@@ -6,7 +6,6 @@ use mathlib.Core.Bool.{not}
 use mathlib.Core.Path.{_≡_, refl, ap, _∙_}
 use lib.ListN.{length}
 use borrow.Author.Needs.{needs}
-use borrow.Author.Tests.{ltb-true, ltb-false}
 use Rattle.basics.specs.First.{first, found}
 use Rattle.table_check.proofs.Scan.{wrong, judged, wrong-end, none-wrong-more}
 use Rattle.table_check.proofs.order.are_well_formed.Statement.{statement}
@@ -14,28 +13,26 @@ use Rattle.table_check.proofs.order.are_well_formed.Tie as tie
 
 abbrev Inv-loop : tie.InvT-loop
 Inv-loop heads seconds so-far₀ i₀ so-far i =
-    (i ≤ length heads) × (i ≤ length seconds) × (so-far ≡ not (found (first (wrong heads seconds) i)))
+    (i ≤ length heads) × (so-far ≡ not (found (first (wrong heads seconds) i)))
 
 abbrev μ-loop : tie.MeasureT-loop
 μ-loop heads seconds so-far₀ i₀ so-far i = length heads - i
 
 loop-holds : tie.Need-loop-holds Inv-loop μ-loop
 unfolding first
-loop-holds c = (omega arith, omega arith, refl)
+loop-holds c = (omega arith, refl)
 
 loop-again : tie.Need-loop-again Inv-loop μ-loop
 loop-again c =
-    let l = c .before .before .before .before .before .loop in (
-      omega arith,
-      omega (arith, ltb-true),
-      none-wrong-more _ _ (l .i) (l .so-far) _ (l .inv .2) (judged _ _ _ _ (omega arith) (omega (arith, ltb-true)) (c .is-well-formed .ensures)),
-    )
+    let l = c .before .before .before .before .loop in
+    let p = c .before .before .before .before .before .before .before .pre in
+    (omega arith, none-wrong-more _ _ (l .i) (l .so-far) _ (l .inv .1) (judged _ _ _ _ (omega arith) (omega (arith, p .0)) (c .is-well-formed .ensures)))
 
 returns : tie.Need-returns Inv-loop μ-loop
-returns c = c .before .before .loop .inv .2 ∙ ap (λ p. not (found p)) (wrong-end _ _ (c .before .before .loop .i) (omega (arith, ltb-false)))
-
-returns-2 : tie.Need-returns-2 Inv-loop μ-loop
-returns-2 c = c .before .loop .inv .2 ∙ ap (λ p. not (found p)) (wrong-end _ _ (c .before .loop .i) (omega arith))
+returns c =
+    let l = c .before .loop in
+    let p = c .before .before .before .before .pre in
+    l .inv .1 ∙ ap (λ q. not (found q)) (wrong-end _ _ (l .i) (p .0) (omega arith))
 
 pub are-well-formed-spec : {M : Type 1} → statement M
 are-well-formed-spec =
@@ -53,5 +50,4 @@ are-well-formed-spec =
     (λ c. search needs)
     (λ c. search needs)
     loop-again
-    returns
-    returns-2)
+    returns)

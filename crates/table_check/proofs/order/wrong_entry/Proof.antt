@@ -6,7 +6,6 @@ use mathlib.Core.Bool.{not}
 use mathlib.Core.Path.{_≡_, refl, sym, ap, _∙_}
 use lib.ListN.{length}
 use borrow.Author.Needs.{needs}
-use borrow.Author.Tests.{ltb-true, ltb-false}
 use Rattle.basics.specs.declared.place.Place.the-variants.{Nowhere}
 use Rattle.basics.specs.First.{first}
 use Rattle.basics.proofs.First.{not-found, first-none-more}
@@ -15,7 +14,7 @@ use Rattle.table_check.proofs.order.wrong_entry.Statement.{statement}
 use Rattle.table_check.proofs.order.wrong_entry.Tie as tie
 
 abbrev Inv-loop : tie.InvT-loop
-Inv-loop heads seconds i₀ i = (i ≤ length heads) × (i ≤ length seconds) × (first (wrong heads seconds) i ≡ Nowhere)
+Inv-loop heads seconds i₀ i = (i ≤ length heads) × (first (wrong heads seconds) i ≡ Nowhere)
 
 abbrev μ-loop : tie.MeasureT-loop
 μ-loop heads seconds i₀ i = length heads - i
@@ -26,29 +25,32 @@ returns c = sym (not-found _ (opposite _ _ (c .before .are-well-formed .ensures)
 
 loop-holds : tie.Need-loop-holds Inv-loop μ-loop
 unfolding first
-loop-holds c = (omega arith, omega arith, refl)
+loop-holds c = (omega arith, refl)
 
 -- what is_well_formed answered of entry i
 asked :
-    (c : tie.After-is-well-formed Inv-loop μ-loop) → let a = c .before .before .before .before .before .before .before .before .before .before .args in
-    wrong (a .heads .now) (a .seconds .now) (c .before .before .before .before .before .loop .i) ≡ not (c .is-well-formed .result)
-asked c = judged _ _ _ _ (omega arith) (omega (arith, ltb-true)) (c .is-well-formed .ensures)
+    (c : tie.After-is-well-formed Inv-loop μ-loop) → let a = c .before .before .before .before .before .before .before .before .before .args in
+    wrong (a .heads .now) (a .seconds .now) (c .before .before .before .before .loop .i) ≡ not (c .is-well-formed .result)
+asked c =
+    let p = c .before .before .before .before .before .before .before .before .before .pre in
+    judged _ _ _ _ (omega arith) (omega (arith, p .0)) (c .is-well-formed .ensures)
 
 returns-2 : tie.Need-returns-2 Inv-loop μ-loop
 returns-2 c =
-    let l = c .before .before .before .before .before .before .loop in
-    sym (wrong-at _ _ (l .i) (omega arith) (omega (arith, ltb-true)) (l .inv .2) (asked (c .before) ∙ c .if3 .taken))
+    let l = c .before .before .before .before .before .loop in
+    let p = c .before .before .before .before .before .before .before .before .before .before .pre in
+    sym (wrong-at _ _ (l .i) (omega arith) (omega (arith, p .0)) (l .inv .1) (asked (c .before) ∙ c .if2 .taken))
 
 loop-again : tie.Need-loop-again Inv-loop μ-loop
 loop-again c =
-    let l = c .before .before .before .before .before .before .loop in
-    (omega arith, omega (arith, ltb-true), first-none-more (wrong _ _) (l .i) (l .inv .2) (asked (c .before) ∙ c .if3 .left))
+    let l = c .before .before .before .before .before .loop in
+    (omega arith, first-none-more (wrong _ _) (l .i) (l .inv .1) (asked (c .before) ∙ c .if2 .left))
 
 returns-3 : tie.Need-returns-3 Inv-loop μ-loop
-returns-3 c = sym (sym (wrong-end _ _ (c .before .before .loop .i) (omega (arith, ltb-false))) ∙ c .before .before .loop .inv .2)
-
-returns-4 : tie.Need-returns-4 Inv-loop μ-loop
-returns-4 c = sym (sym (wrong-end _ _ (c .before .loop .i) (omega arith)) ∙ c .before .loop .inv .2)
+returns-3 c =
+    let l = c .before .loop in
+    let p = c .before .before .before .before .before .before .pre in
+    sym (l .inv .1) ∙ wrong-end _ _ (l .i) (p .0) (omega arith)
 
 pub wrong-entry-spec : {M : Type 1} → statement M
 wrong-entry-spec =
@@ -69,5 +71,4 @@ wrong-entry-spec =
     (λ c. search needs)
     (λ c. search needs)
     loop-again
-    returns-3
-    returns-4)
+    returns-3)
