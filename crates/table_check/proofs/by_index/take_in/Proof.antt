@@ -50,6 +50,10 @@ returns c =
     let l = c .before .before .before .loop in
     search-finds _ _ _ _ _ (p .1) _ _ _ (l .inv) (c .before .before .loop-test .taken) (sym (c .before .are-same .ensures) ∙ c .if1 .taken)
 
+-- of an entry that is too deep nothing is told
+returns-2 : tie.Need-returns-2 Inv-loop μ-loop
+returns-2 c = tt
+
 cast-link-2 : tie.Need-cast-link-2 Inv-loop μ-loop
 cast-link-2 c =
     let o = c .before .before .before .before .before .before .before .before .before .before .before .before .before .before in
@@ -94,7 +98,7 @@ take-in-spec =
     (λ c. omega arith)
     are-same-requires
     returns
-    (λ c. search needs)
+    returns-2
     (λ c. omega arith)
     (λ c. omega arith)
     (λ c. omega arith)
