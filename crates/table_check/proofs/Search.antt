@@ -1,7 +1,7 @@
 -- The search through a tree, by which test 5 answers whether an entry stands earlier. Assumes nothing.
 use Prim.Native.Nat.{ℕ, _+_, _*_, _/_, _-_, _<_, _≤_}
 use native.Mathlib.Omega.{arith}
-use mathlib.Core.Bool.{Bool, true, false, true≢false}
+use mathlib.Core.Bool.{true, false, true≢false}
 use mathlib.Core.List.{List}
 use mathlib.Core.Path.{_≡_, refl, sym, subst, _∙_}
 use lib.ListN.{length, getD, set}
@@ -108,11 +108,12 @@ module _ (hs ss : List ℕ) (roots : ℕ) (slots : List ℕ) (i : ℕ) where
             (s .leads p empty (here (getD-set-same slots p (i + 1) 0 (omega (arith, s .before, index .room)))))
 
 -- What is told of an entry that is in, and of one that is repeated.
-pub told-in : (r : Taken) (b : Bool) (I : Type 0) → Told r b I → r ≡ In → (b ≡ false) × I
-told-in r b I t e = subst (λ q. Told q b I) e t
+module _ (hs ss : List ℕ) (roots : ℕ) (slots : List ℕ) (i : ℕ) (r : Taken) (told : Told hs ss roots slots i r) where
+  pub told-in : r ≡ In → (isRepeated hs ss i ≡ false) × Indexed hs ss roots slots (i + 1)
+  told-in e = subst (Told hs ss roots slots i) e told
 
-pub told-repeated : (r : Taken) (b : Bool) (I : Type 0) → Told r b I → r ≡ Repeated → b ≡ true
-told-repeated r b I t e = subst (λ q. Told q b I) e t
+  pub told-repeated : r ≡ Repeated → isRepeated hs ss i ≡ true
+  told-repeated e = subst (Told hs ss roots slots i) e told
 
 -- A search that ended has the answer.
 pub ended : (r : Search) (place answer : Place) → Answers r answer → r ≡ Ended place → place ≡ answer

@@ -43,6 +43,14 @@ module _ (heads : List ℕ) where
       pub low-heads : (i : ℕ) → i < length heads → getD heads i 0 < 6 * mostAtoms
       pub low-seconds : (i : ℕ) → i < length heads → getD seconds i 0 < mostFormulas
 
+    -- what the search along a chain asks: all entries are linked, and i is the first entry with its head
+    pub record FromFirst (next seen : List ℕ) (i bound : ℕ) : Type 0 where
+      pub table : AfterFour
+      pub linked : Linked next
+      pub notes : Notes seen
+      pub is-first : NextFrom (getD heads i 0) 0 i
+      pub within : bound ≤ length heads
+
     -- found is the first repeated entry with a head that is before the bound; where there is none, it is the bound
     pub record FirstOfHead (head bound found : ℕ) : Type 0 where
       pub within : found ≤ bound

@@ -57,18 +57,18 @@ module _ (heads seconds : List ℕ) where
     pub rises : (p j : ℕ) → getD slots p 0 ≡ j + 1 → p < roots + 2 * j
     pub each : (k : ℕ) → k < n → Found roots slots k k
 
+  -- what is told of entry i, which was to be taken into the index
+  abbrev pub Told : ℕ → List ℕ → ℕ → Taken → Type 0
+  Told roots slots i In = (isRepeated i ≡ false) × Indexed roots slots (i + 1)
+  Told roots slots i Repeated = isRepeated i ≡ true
+  Told roots slots i TooDeep = Unit
+
 -- slots for an index, with no link yet
 pub record Cleared (roots : ℕ) (slots : List ℕ) : Type 0 where
   pub some-root : 0 < roots
   pub root-slots : roots ≤ length slots
   pub few : length slots < 65536
   pub empty : (p : ℕ) → getD slots p 0 ≡ 0
-
--- what is told of an entry that was to be taken in, where Index says that it stands in the index
-abbrev pub Told : Taken → Bool → Type 0 → Type 0
-Told In isRepeated Index = (isRepeated ≡ false) × Index
-Told Repeated isRepeated Index = isRepeated ≡ true
-Told TooDeep isRepeated Index = Unit
 
 -- a search that ended has the answer; one that was given up has none
 abbrev pub Answers : Search → Place → Type 0

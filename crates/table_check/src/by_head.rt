@@ -7,7 +7,7 @@ ghost use lib.ListN.{length, getD};
 ghost use Rattle.basics.specs.Limits.{mostFormulas};
 ghost use Rattle.table.specs.Tests.{repeatedEntry};
 ghost use Rattle.table_check.specs.Index.{isRepeated, Within};
-ghost use Rattle.table_check.specs.Chains.{AfterFour, NextFrom, Chained, Linked, Notes, FirstOfHead};
+ghost use Rattle.table_check.specs.Chains.{AfterFour, Chained, Notes, FromFirst, FirstOfHead};
 use crate::same::are_same;
 use basics::limits::MOST_ATOMS;
 use basics::limits::MOST_FORMULAS;
@@ -44,8 +44,9 @@ fn repeated_in_chain(
     i: usize,
     bound: usize,
 ) -> usize
-    requires { ⌜ AfterFour (now heads) (now seconds) × Linked (now heads) (now next) × Notes (now heads) (now seen) × NextFrom (now heads) (getD (now heads) i 0) 0 i × (bound ≤ length (now heads)) ⌝ }
-    ensures { λ r. ⌜ FirstOfHead (now (heads .entry)) (now (seconds .entry)) (getD (now (heads .entry)) i 0) bound r × Notes (now (heads .entry)) (now (seen .exit)) ⌝ }
+    requires { ⌜ FromFirst (now heads) (now seconds) (now next) (now seen) i bound ⌝ }
+    ensures { λ r. ⌜ FirstOfHead (now (heads .entry)) (now (seconds .entry)) (getD (now (heads .entry)) i 0) bound r ⌝ }
+    ensures { λ r. ⌜ Notes (now (heads .entry)) (now (seen .exit)) ⌝ }
 {
     let mut found = bound;
     let mut j = i;

@@ -4,7 +4,7 @@ ghost use Prim.Native.Nat.{_+_, _*_, _<_, _≤_};
 ghost use mathlib.Core.Path.{_≡_};
 ghost use lib.ListN.{length};
 ghost use Rattle.table.specs.Tests.{repeatedEntry};
-ghost use Rattle.table_check.specs.Index.{root, key, isRepeated, Within, Indexed, Told, Answers};
+ghost use Rattle.table_check.specs.Index.{root, key, Within, Indexed, Told, Answers};
 use crate::same::are_same;
 use basics::place::Place;
 
@@ -42,7 +42,7 @@ fn take_in(
     i: usize,
 ) -> Taken
     requires { ⌜ Within (now heads) (now seconds) i × Indexed (now heads) (now seconds) roots (now slots) i ⌝ }
-    ensures { λ r. ⌜ Told r (isRepeated (now (heads .entry)) (now (seconds .entry)) i) (Indexed (now (heads .entry)) (now (seconds .entry)) roots (now (slots .exit)) (i + 1)) ⌝ }
+    ensures { λ r. ⌜ Told (now (heads .entry)) (now (seconds .entry)) roots (now (slots .exit)) i r ⌝ }
 {
     let head = heads[i];
     let second = seconds[i];

@@ -1,11 +1,7 @@
 // Test 5: no entry has the head and second of an earlier one. An index answers for most tables; where a path in it
 // gets long, chains by head do. So the time is linear in the number of entries, whatever the table.
-ghost use Prim.Native.Nat.{_≤_};
 ghost use mathlib.Core.Path.{_≡_};
-ghost use lib.ListN.{length};
-ghost use Rattle.basics.specs.declared.place.Place.the-variants.{Nowhere};
-ghost use Rattle.basics.specs.Limits.{mostFormulas};
-ghost use Rattle.table.specs.Tests.{entries, wrongEntry, repeatedEntry};
+ghost use Rattle.table.specs.Tests.{repeatedEntry};
 ghost use Rattle.table_check.specs.Index.{Cleared};
 ghost use Rattle.table_check.specs.Chains.{AfterFour};
 use crate::by_head::repeated_by_head;
@@ -79,7 +75,7 @@ fn repeated_in(heads: &[u16], seconds: &[u16], slots: &mut [u16], roots: usize) 
 // "5. An entry has the head and second of an earlier one (place: the first such later entry; ..)." "5 .. tested after 4
 // has passed the whole table"
 pub(crate) fn repeated_entry(heads: &[u16], seconds: &[u16]) -> Place
-    requires { ⌜ (length (now heads) ≡ length (now seconds)) × (length (now heads) ≤ mostFormulas) × (wrongEntry (entries (now heads) (now seconds)) ≡ Nowhere) ⌝ }
+    requires { ⌜ AfterFour (now heads) (now seconds) ⌝ }
     ensures { λ r. ⌜ r ≡ repeatedEntry (now (heads .entry)) (now (seconds .entry)) ⌝ }
 {
     if heads.len() <= FEWEST {

@@ -86,7 +86,13 @@ repeated-in-chain-requires : tie.Need-repeated-in-chain-requires Inv-loop μ-loo
 repeated-in-chain-requires c κs =
     let hs = c .before .before .before .before .before .before .before .before .before .before .before .before .before .before .args .heads .now in
     let l = c .before .before .before .before .before .before .loop in
-    (c .before .before .before .before .before .before .before .before .before .before .before .before .before .before .pre, linked _ _ _ (c .before .before .before .before .before .before .before .before .before .chain .ensures), l .inv .1, subst (λ m. NextFrom hs (getD hs (l .i) 0) 0 m) (eqb-true _ _ (c .before .before .if2 .taken)) (firsts (c .before .before .before .before .before)), l .inv .2 .within)
+    record {
+      table = c .before .before .before .before .before .before .before .before .before .before .before .before .before .before .pre;
+      linked = linked _ _ _ (c .before .before .before .before .before .before .before .before .before .chain .ensures);
+      notes = l .inv .1;
+      is-first = subst (λ m. NextFrom hs (getD hs (l .i) 0) 0 m) (eqb-true _ _ (c .before .before .if2 .taken)) (firsts (c .before .before .before .before .before));
+      within = l .inv .2 .within;
+    }
 
 -- what a turn leaves: no more is found, and the invariant holds at the next entry
 turn :

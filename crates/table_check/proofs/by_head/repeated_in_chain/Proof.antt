@@ -22,11 +22,11 @@ abbrev μ-loop : tie.MeasureT-loop
 loop-holds : tie.Need-loop-holds Inv-loop μ-loop
 loop-holds c =
     let p = c .before .before .before .before .pre in
-    (refl, chain-starts _ _ _ _ _ _ (p .4) (p .2) (p .3))
+    (refl, chain-starts _ _ _ _ _ _ (p .within) (p .notes) (p .is-first))
 
 -- j is an entry,
 within : (c : tie.In-loop Inv-loop μ-loop) → c .before .loop .j < length (c .before .before .before .before .before .before .args .heads .now)
-within c = omega (arith, c .before .loop .inv .1 .within, c .before .before .before .before .before .before .pre .4)
+within c = omega (arith, c .before .loop .inv .1 .within, c .before .before .before .before .before .before .pre .within)
 
 -- and its second has a place among those seen
 second-low :
@@ -34,13 +34,13 @@ second-low :
     getD (c .before .before .before .before .before .before .args .seconds .now) (l .j) 0 < length (l .seen)
 second-low c =
     let l = c .before .loop in
-    omega (arith, c .before .before .before .before .before .before .pre .0 .low-seconds (l .j) (within c), l .inv .1 .notes .room)
+    omega (arith, c .before .before .before .before .before .before .pre .table .low-seconds (l .j) (within c), l .inv .1 .notes .room)
 
 mul-second : tie.Need-mul-second Inv-loop μ-loop
 mul-second c = omega (arith, within c)
 
 shared-slice-read-second : tie.Need-shared-slice-read-second Inv-loop μ-loop
-shared-slice-read-second c = omega (arith, within (c .before), c .before .before .before .before .before .before .before .pre .0 .alike)
+shared-slice-read-second c = omega (arith, within (c .before), c .before .before .before .before .before .before .before .pre .table .alike)
 
 cast-second : tie.Need-cast-second Inv-loop μ-loop
 cast-second c = omega (arith, second-low (c .before))
@@ -60,7 +60,7 @@ are-same-requires c κs =
     let inside = within (c .before .before .before) in
     let p = c .before .before .before .before .before .before .before .before .before .pre in
     let entry = l .inv .1 .notes .entry _ (omega (arith, inside)) in
-    (record { in-heads = inside; in-seconds = omega (arith, p .0 .alike) }, record { in-heads = entry; in-seconds = omega (arith, p .0 .alike) })
+    (record { in-heads = inside; in-seconds = omega (arith, p .table .alike) }, record { in-heads = entry; in-seconds = omega (arith, p .table .alike) })
 
 loop-less : tie.Need-loop-less Inv-loop μ-loop
 loop-less c = omega arith
@@ -74,7 +74,7 @@ loop-again c =
     )
 
 cast-seen : tie.Need-cast-seen Inv-loop μ-loop
-cast-seen c = omega (arith, within (c .before .before .before), c .before .before .before .before .before .before .before .before .before .pre .0 .few)
+cast-seen c = omega (arith, within (c .before .before .before), c .before .before .before .before .before .before .before .before .before .pre .table .few)
 
 mul-seen : tie.Need-mul-seen Inv-loop μ-loop
 mul-seen c = omega (arith, second-low (c .before .before .before))
@@ -86,7 +86,7 @@ mul-j : tie.Need-mul-j Inv-loop μ-loop
 mul-j c = omega (arith, within (c .before .before .before))
 
 shared-slice-read-j : tie.Need-shared-slice-read-j Inv-loop μ-loop
-shared-slice-read-j c = omega (arith, within (c .before .before .before .before), c .before .before .before .before .before .before .before .before .before .before .pre .1 .room)
+shared-slice-read-j c = omega (arith, within (c .before .before .before .before), c .before .before .before .before .before .before .before .before .before .before .pre .linked .room)
 
 cast-j : tie.Need-cast-j Inv-loop μ-loop
 cast-j c = omega (arith, c .shared-slice-known5 .given (c .before .before .before .before .before .loop .j))
@@ -99,7 +99,7 @@ next c =
     let l = c .before .before .before .before .loop in
     let a = c .before .before .before .before .before .before .before .before .before .args in
     let inside = within (c .before .before .before) in
-    subst (λ head. NextFrom (a .heads .now) head (l .j + 1) (getD (a .next .now) (l .j) 0)) (l .inv .1 .its inside) (c .before .before .before .before .before .before .before .before .before .pre .1 .nexts (l .j) inside)
+    subst (λ head. NextFrom (a .heads .now) head (l .j + 1) (getD (a .next .now) (l .j) 0)) (l .inv .1 .its inside) (c .before .before .before .before .before .before .before .before .before .pre .linked .nexts (l .j) inside)
 
 -- what the search along the chain knows where it goes on
 on :
@@ -113,7 +113,7 @@ on c =
     let a = c .before .before .before .before .before .before .before .before .before .args in
     let p = c .before .before .before .before .before .before .before .before .before .pre in
     let inside = within (c .before .before .before) in
-    chain-goes-on _ _ _ _ _ _ _ (l .inv .1) _ (p .4) inside (second-low (c .before .before .before)) (next c)
+    chain-goes-on _ _ _ _ _ _ _ (l .inv .1) _ (p .within) inside (second-low (c .before .before .before)) (next c)
     (⊎-elim (λ w less e. true≢false (sym e ∙ sym (w .1 .ensures) ∙ w .2 .left)) (λ w less e. omega (arith, w .left)) (c .if1 .came))
 
 loop-less-2 : tie.Need-loop-less-2 Inv-loop μ-loop

@@ -39,8 +39,11 @@ same-length c = c .before .before .before .before .take-in .kept .1 .1 .0 ∙ c 
 
 returns : tie.Need-returns Inv-loop μ-loop
 returns c =
+    let a = c .before .before .before .before .before .before .before .before .before .before .before .args in
     let l = c .before .before .before .before .before .before .before .loop in
-    repeated-at _ _ (l .i) (omega arith) (l .inv .3) (told-repeated _ _ _ (c .before .before .before .before .take-in .ensures) (c .enum-told2 .given .1))
+    let t = c .before .before .before .before .take-in in
+    repeated-at _ _ (l .i) (omega arith) (l .inv .3)
+    (told-repeated (a .heads .now) (a .seconds .now) (a .roots) (t .last .1 .1 .0) (l .i) (t .result) (t .ensures) (c .enum-told2 .given .1))
 
 same-length-2 : tie.Need-same-length-2 Inv-loop μ-loop
 same-length-2 c = c .before .before .before .before .take-in .kept .1 .1 .0 ∙ c .before .before .before .before .before .before .before .loop .inv .1
@@ -53,7 +56,7 @@ loop-again c =
     let a = c .before .before .before .before .before .before .before .before .before .before .before .args in
     let l = c .before .before .before .before .before .before .before .loop in
     let t = c .before .before .before .before .take-in in
-    let (new, index) = told-in _ _ _ (t .ensures) (c .enum-told .given .1) in
+    let (new, index) = told-in (a .heads .now) (a .seconds .now) (a .roots) (t .last .1 .1 .0) (l .i) (t .result) (t .ensures) (c .enum-told .given .1) in
     (omega arith, t .kept .1 .1 .0 ∙ l .inv .1, index, first-none-more (isRepeated (a .heads .now) (a .seconds .now)) (l .i) (l .inv .3) new)
 
 same-length-3 : tie.Need-same-length-3 Inv-loop μ-loop

@@ -7,6 +7,7 @@ use borrow.Author.Tests.{not-true, not-false}
 use Rattle.basics.specs.declared.place.Place.the-variants.{Nowhere}
 use Rattle.table.specs.Tests.{sized, entries, wrongEntry}
 use Rattle.table.proofs.Answers.{sizes, refused-2, refused-4, refused-5, passed}
+use Rattle.table_check.proofs.AfterFour.{after-four}
 use Rattle.table_check.proofs.check.check_table.Statement.{statement}
 use Rattle.table_check.proofs.check.check_table.Tie as tie
 
@@ -35,7 +36,7 @@ repeated-entry-requires : tie.Need-repeated-entry-requires
 repeated-entry-requires c κs =
     let a = c .before .before .before .before .before .before .before .args in
     let (alike, few) = sizes (a .heads .now) (a .seconds .now) (passed-2 (c .before .before .before)) in
-    (alike, few, passed-4 c)
+    after-four _ _ alike few (passed-4 c)
 
 returns-3 : tie.Need-returns-3
 returns-3 c =

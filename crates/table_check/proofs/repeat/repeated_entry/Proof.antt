@@ -2,7 +2,6 @@
 -- room for them. Assumes nothing.
 use native.Mathlib.Omega.{arith}
 use borrow.Author.Needs.{needs}
-use Rattle.table_check.proofs.AfterFour.{after-four}
 use Rattle.table_check.proofs.Trees.{cleared, indexed-new}
 use Rattle.table_check.proofs.Search.{ended}
 use Rattle.table_check.proofs.repeat.repeated_entry.Statement.{statement}
@@ -10,15 +9,14 @@ use Rattle.table_check.proofs.repeat.repeated_entry.Tie as tie
 
 repeated-by-requires : tie.Need-repeated-by-requires
 repeated-by-requires c κs =
-    (c .before .before .before .before .pre .0, indexed-new _ _ 16 32 (omega arith) (omega arith) (omega arith))
+    (c .before .before .before .before .pre .alike, indexed-new _ _ 16 32 (omega arith) (omega arith) (omega arith))
 
 returns : tie.Need-returns
 returns c = ended _ _ _ (c .before .before .before .before .repeated-by .ensures) (c .before .place .given .1)
 
 repeated-in-requires : tie.Need-repeated-in-requires
 repeated-in-requires c κs =
-    let p = c .before .before .before .before .pre in
-    (after-four _ _ (p .0) (p .1) (p .2), cleared 128 256 (omega arith) (omega arith) (omega arith))
+    (c .before .before .before .before .pre, cleared 128 256 (omega arith) (omega arith) (omega arith))
 
 pub repeated-entry-spec : {M : Type 1} → statement M
 repeated-entry-spec =
