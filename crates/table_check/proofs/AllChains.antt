@@ -4,11 +4,10 @@ use native.Mathlib.Decide.{ℕ-discrete}
 use native.Mathlib.Omega.{arith}
 use mathlib.Core.Bool.{true, false, true≢false}
 use mathlib.Core.List.{List}
-use mathlib.Core.Path.{_≡_, refl, sym, ap, subst, _∙_}
-use lib.ListN.{length, getD, replicate, length-replicate}
+use mathlib.Core.Path.{_≡_, refl, sym, ap, _∙_}
+use lib.ListN.{length, getD}
 use Rattle.basics.specs.declared.place.Place.the-variants.{At, Nowhere}
 use Rattle.basics.specs.First.{first}
-use Rattle.basics.specs.Limits.{mostFormulas}
 use Rattle.basics.proofs.First.{no-place}
 use Rattle.table.specs.Tests.{repeatedEntry}
 use Rattle.table_check.specs.Index.{isRepeated}

@@ -1,6 +1,6 @@
--- How test 5 finds an earlier entry with the same head and second where the index would be slow: by chains of the
--- entries of each head. Only private functions of src/by_head.rt and src/repeat.rt speak of this; what test 5 answers is
--- `repeatedEntry` of `table`. Assumes nothing.
+-- How test 5 finds an earlier entry with the same head and second where the index would be slow: along chains of the
+-- entries with the same head. Only private functions of src/by_head.rt and src/repeat.rt speak of this; what test 5
+-- answers is `repeatedEntry` of `table`. Assumes nothing.
 use Prim.Native.Nat.{ℕ, _+_, _*_, _<_, _≤_}
 use mathlib.Core.Bool.{true, false}
 use mathlib.Core.List.{List}
@@ -10,14 +10,14 @@ use Rattle.basics.specs.Limits.{mostFormulas, mostAtoms}
 use Rattle.table_check.specs.Index.{isRepeated}
 
 module _ (heads : List ℕ) where
-  -- p is the first entry from n on that has a head; where there is none, p is no entry
+  -- p is the first entry from n on that has a head; where there is none, it is the number of no entry
   pub record NextFrom (head n p : ℕ) : Type 0 where
     pub from : n ≤ p
     pub low : p ≤ mostFormulas
     pub its : p < length heads → getD heads p 0 ≡ head
     pub none-between : (k : ℕ) → n ≤ k → k < p → k < length heads → ¬ (getD heads k 0 ≡ head)
 
-  -- the entries from n on are chained: at each head stands the first, and at each entry the next with its head
+  -- the entries from n on are chained: `first` has at each head the first entry, `next` at each entry the next one
   pub record Chained (first next : List ℕ) (n : ℕ) : Type 0 where
     pub few : length heads ≤ mostFormulas
     pub head-room : (i : ℕ) → i < length heads → getD heads i 0 < length first
@@ -25,12 +25,12 @@ module _ (heads : List ℕ) where
     pub firsts : (head : ℕ) → head < length first → NextFrom head n (getD first head 0)
     pub nexts : (i : ℕ) → n ≤ i → i < length heads → NextFrom (getD heads i 0) (i + 1) (getD next i 0)
 
-  -- all entries are linked to the next with their head
+  -- `next` has at each entry the next one with its head
   pub record Linked (next : List ℕ) : Type 0 where
     pub room : length heads ≤ length next
     pub nexts : (i : ℕ) → i < length heads → NextFrom (getD heads i 0) (i + 1) (getD next i 0)
 
-  -- at each second stands an entry
+  -- `seen` has at each second some entry
   pub record Notes (seen : List ℕ) : Type 0 where
     pub room : mostFormulas ≤ length seen
     pub entry : (second : ℕ) → 0 < length heads → getD seen second 0 < length heads
@@ -51,7 +51,7 @@ module _ (heads : List ℕ) where
       pub is-first : NextFrom (getD heads i 0) 0 i
       pub within : bound ≤ length heads
 
-    -- found is the first repeated entry with a head that is before the bound; where there is none, it is the bound
+    -- found is the first entry before the bound that has the head and is repeated; where there is none, it is the bound
     pub record FirstOfHead (head bound found : ℕ) : Type 0 where
       pub within : found ≤ bound
       pub is-repeated : found < bound → isRepeated heads seconds found ≡ true

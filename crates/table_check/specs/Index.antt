@@ -1,8 +1,8 @@
 -- How test 5 finds an earlier entry with the same head and second: by an index of digital search trees in one array of
 -- slots. The first `roots` slots lead to the trees' first entries, and then two slots for each entry lead on from it,
 -- one for a key whose next bit is 0 and one for 1. A slot holds a link, one more than the number of an entry, or 0 for
--- none. Only private functions of src/by_index.rt and src/repeat.rt speak of this; what test 5 answers is `repeatedEntry`
--- of `table`, where no slot stands. Assumes nothing.
+-- none. Only private functions of src/by_index.rt and src/repeat.rt speak of this; what test 5 answers is
+-- `repeatedEntry` of `table`, where no slot stands. Assumes nothing.
 use Prim.Native.Nat.{ℕ, _+_, _*_, _/_, _%_, _<_, _≤_}
 use mathlib.Core.Bool.{Bool, true, false}
 use mathlib.Core.List.{List}

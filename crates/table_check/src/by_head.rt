@@ -1,19 +1,15 @@
 // Test 5 by chains, in linear time whatever the table: the entries of each head are chained, and along a chain each
 // second is looked up among those before it.
-ghost use Prim.Native.Nat.{_+_, _<_, _≤_};
-ghost use mathlib.Core.Bool.{true};
 ghost use mathlib.Core.Path.{_≡_};
 ghost use lib.ListN.{length, getD};
-ghost use Rattle.basics.specs.Limits.{mostFormulas};
 ghost use Rattle.table.specs.Tests.{repeatedEntry};
-ghost use Rattle.table_check.specs.Index.{isRepeated, Within};
 ghost use Rattle.table_check.specs.Chains.{AfterFour, Chained, Notes, FromFirst, FirstOfHead};
 use crate::same::are_same;
 use basics::limits::MOST_ATOMS;
 use basics::limits::MOST_FORMULAS;
 use basics::place::Place;
 
-// An entry of the six kinds has a lower head.
+// The head of an entry of the six kinds is lower.
 const HEADS: usize = 6 * MOST_ATOMS;
 
 // No entry has this number.
@@ -34,8 +30,8 @@ fn chain(heads: &[u16], first: &mut [u16], next: &mut [u16])
     }
 }
 
-// Of the entries before `bound`, the first one of a chain that has the second of an earlier one of the chain; `bound`
-// where there is none. The chain begins at entry i. In `seen` stands at a second the last entry that was seen with it.
+// The first entry of a chain that has the second of an earlier one, if it stands before `bound`; else `bound`. The chain
+// begins at entry i. `seen` has at a second the last entry that was met with it.
 fn repeated_in_chain(
     heads: &[u16],
     seconds: &[u16],

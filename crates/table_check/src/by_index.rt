@@ -1,6 +1,6 @@
 // Test 5 by an index. The entries so far stand in digital search trees: below an entry, the next bit of a key tells
-// which way to go. In most tables the way to an entry is short.
-ghost use Prim.Native.Nat.{_+_, _*_, _<_, _≤_};
+// which way to go. There are more trees than entries, so that in most tables no path is long.
+ghost use Prim.Native.Nat.{_<_};
 ghost use mathlib.Core.Path.{_≡_};
 ghost use lib.ListN.{length};
 ghost use Rattle.table.specs.Tests.{repeatedEntry};
@@ -8,7 +8,8 @@ ghost use Rattle.table_check.specs.Index.{root, key, Within, Indexed, To
 use crate::same::are_same;
 use basics::place::Place;
 
-// The root of the tree for a head and a second. What is the same has the same root; no more is needed of it.
+// The root of the tree for a head and a second: the upper bits of a product, in which all their bits have a part. What
+// is the same has the same root; no more is needed of it.
 fn root_of(head: u16, second: u16, roots: usize) -> usize
     requires { ⌜ roots < 65536 ⌝ }
     ensures { λ r. ⌜ r ≡ root roots head second ⌝ }
@@ -30,9 +31,9 @@ pub enum Taken {
     TooDeep,
 }
 
-// Takes entry i into the index, unless an earlier entry has its head and second, or stands below more than `most`
-// others. The first `roots` slots lead to the trees, then two for each entry lead on from it. A link is one more than
-// the number of an entry, or 0 for none.
+// Takes entry i into the index, unless an earlier entry has its head and second, or more than `most` entries stand on its
+// path. The first `roots` slots lead to the trees, then two for each entry lead on from it. A link is one more than the
+// number of an entry, or 0 for none.
 fn take_in(
     heads: &[u16],
     seconds: &[u16],

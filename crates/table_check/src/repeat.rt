@@ -53,8 +53,8 @@ fn repeated_of_many(heads: &[u16], seconds: &[u16]) -> Place
 }
 
 // The same of any number of entries, by an index in the slots that are lent; where these are too few, it lends itself
-// more. A function that calls itself doesn't take in those that have large arrays, so that these are no part of the frame
-// for a small table, where they would cost more than the whole search.
+// more. The compiler doesn't take a function with large arrays into one that calls itself: so these are no part of the
+// frame for a small table, where they would cost more than the whole search.
 fn repeated_in(heads: &[u16], seconds: &[u16], slots: &mut [u16], roots: usize) -> Place
     requires { ⌜ AfterFour (now heads) (now seconds) × Cleared roots (now slots) ⌝ }
     ensures { λ r. ⌜ r ≡ repeatedEntry (now (heads .entry)) (now (seconds .entry)) ⌝ }

@@ -4,7 +4,6 @@ use Prim.Native.Nat.{_+_, _-_, _<_, _≤_}
 use native.Mathlib.Omega.{arith}
 use mathlib.Core.Path.{_≡_, refl, subst, _∙_}
 use lib.ListN.{length, getD, length-set}
-use borrow.Author.Needs.{needs}
 use Rattle.table_check.specs.Chains.{Chained}
 use Rattle.table_check.proofs.Chains.{chained-more}
 use Rattle.table_check.proofs.by_head.chain.Statement.{statement}

@@ -1,12 +1,11 @@
--- `table_check::by_head::repeated_in_chain` meets its contract. The loop's invariant: the search along the chain has come
--- to entry j, or to its end. Assumes nothing.
-use Prim.Native.Nat.{_+_, _-_, _<_, _≤_}
+-- `table_check::by_head::repeated_in_chain` meets its contract. The loop's invariant: the search along the chain has
+-- come to entry j, or to its end. Assumes nothing.
+use Prim.Native.Nat.{_+_, _-_, _<_}
 use native.Mathlib.Omega.{arith}
 use mathlib.Core.Bool.{true≢false}
 use mathlib.Core.Logic.{⊎-elim}
 use mathlib.Core.Path.{_≡_, refl, sym, subst, _∙_}
 use lib.ListN.{length, getD, set, length-set}
-use borrow.Author.Needs.{needs}
 use Rattle.table_check.specs.Chains.{NextFrom}
 use Rattle.table_check.proofs.Chains.{InChain, chain-starts, chain-finds, chain-ends, chain-goes-on}
 use Rattle.table_check.proofs.by_head.repeated_in_chain.Statement.{statement}
@@ -56,11 +55,13 @@ cast-k c = omega (arith, c .slice-known2 .given (getD (c .before .before .before
 
 are-same-requires : tie.Need-are-same-requires Inv-loop μ-loop
 are-same-requires c κs =
+    let s = c .before .before .before .before .before .before .before .before .before in
     let l = c .before .before .before .before .loop in
     let inside = within (c .before .before .before) in
-    let p = c .before .before .before .before .before .before .before .before .before .pre in
-    let entry = l .inv .1 .notes .entry _ (omega (arith, inside)) in
-    (record { in-heads = inside; in-seconds = omega (arith, p .table .alike) }, record { in-heads = entry; in-seconds = omega (arith, p .table .alike) })
+    let entry = l .inv .1 .notes .entry (getD (s .args .seconds .now) (l .j) 0) (omega arith) in (
+      record { in-heads = inside; in-seconds = omega (arith, s .pre .table .alike) },
+      record { in-heads = entry; in-seconds = omega (arith, s .pre .table .alike) },
+    )
 
 loop-less : tie.Need-loop-less Inv-loop μ-loop
 loop-less c = omega arith

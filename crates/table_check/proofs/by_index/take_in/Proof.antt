@@ -2,8 +2,7 @@
 -- met from the slot that the search has come to. The measure falls since links rise along a path. Assumes nothing.
 use Prim.Native.Nat.{_+_, _*_, _-_}
 use native.Mathlib.Omega.{arith}
-use mathlib.Core.Bool.{not, false≢true}
-use mathlib.Core.Path.{sym, ap, _∙_}
+use mathlib.Core.Path.{sym, _∙_}
 use borrow.Author.Needs.{needs}
 use Rattle.table_check.specs.Index.{onward}
 use Rattle.table_check.proofs.Search.{Searched, search-starts, search-rises, search-steps, search-finds, search-ends, search-writes}

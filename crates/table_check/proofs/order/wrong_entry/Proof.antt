@@ -1,5 +1,5 @@
--- `table_check::order::wrong_entry` meets its contract: where an entry is wrong, the loop finds the first. Its invariant:
--- no entry before i is wrong. Assumes nothing.
+-- `table_check::order::wrong_entry` meets its contract: where an entry is wrong, the loop finds the first. Its
+-- invariant: no entry before i is wrong. Assumes nothing.
 use Prim.Native.Nat.{_≤_, _-_}
 use native.Mathlib.Omega.{arith}
 use mathlib.Core.Bool.{not}

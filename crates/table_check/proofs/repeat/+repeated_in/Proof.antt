@@ -1,9 +1,9 @@
--- `table_check::repeat::repeated_in` meets its contract: an index with room for every entry answers, or the chains do. It
--- calls itself at most once, since the slots that it then lends have room. Assumes nothing.
+-- `table_check::repeat::repeated_in` meets its contract: an index with room for every entry answers, or the chains do.
+-- It calls itself at most once, since the slots that it then lends have room. Assumes nothing.
 use borrow.Author.Needs.{needs}
 use Prim.Native.Nat.{ℕ, _<_, _+_, _*_, _-_}
 use native.Mathlib.Omega.{arith}
-use lib.ListN.{length, length-replicate}
+use lib.ListN.{length}
 use borrow.Fn.Kinds.{In}
 use borrow.Fn.PlainCycle.{Measures, is, falls, and}
 use Rattle.table_check.proofs.Trees.{cleared, indexed-none}

@@ -1,5 +1,5 @@
--- `table_check::repeat::repeated_of_many` meets its contract: either index has room for every entry, and where its search
--- is given up the chains answer. Assumes nothing.
+-- `table_check::repeat::repeated_of_many` meets its contract: either index has room for every entry, and where its
+-- search is given up the chains answer. Assumes nothing.
 use native.Mathlib.Omega.{arith}
 use borrow.Author.Needs.{needs}
 use Rattle.table_check.proofs.Trees.{indexed-new}
