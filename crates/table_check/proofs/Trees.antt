@@ -16,14 +16,8 @@ zeros (suc n) zero = refl
 zeros (suc n) (suc p) = zeros n p
 
 -- Slots of zeros have no link.
-pub cleared : (roots n : ℕ) → 0 < roots → roots ≤ n → n < 65536 → Cleared roots (replicate n 0)
-cleared roots n some room few =
-    record {
-      some-root = some;
-      root-slots = omega (arith, length-replicate {A = ℕ} n 0);
-      few = omega (arith, length-replicate {A = ℕ} n 0);
-      empty = zeros n;
-    }
+pub cleared : (n : ℕ) → n < 65536 → Cleared (replicate n 0)
+cleared n few = record { few = omega (arith, length-replicate {A = ℕ} n 0); empty = zeros n }
 
 -- A slot that is empty stands on no path: what is written there leaves the others as they were,
 pub kept : (slots : List ℕ) (e v p l : ℕ) → getD slots e 0 ≡ 0 → getD slots p 0 ≡ l + 1 → getD (set slots e v) p 0 ≡ l + 1
@@ -38,10 +32,10 @@ meets-kept roots slots k e v empty {p} {x} (further j h m) = further j (kept slo
 
 module _ (hs ss : List ℕ) (roots : ℕ) where
   -- It begins with no link.
-  pub indexed-none : (slots : List ℕ) → Cleared roots slots → roots + 2 * length hs ≤ length slots → Indexed hs ss roots slots 0
-  indexed-none slots clear room =
+  pub indexed-none : (slots : List ℕ) → Cleared slots → 0 < roots → roots + 2 * length hs ≤ length slots → Indexed hs ss roots slots 0
+  indexed-none slots clear some room =
       record {
-        some-root = clear .some-root;
+        some-root = some;
         room = room;
         few = clear .few;
         known = λ p. omega (arith, clear .empty p);
@@ -52,7 +46,7 @@ module _ (hs ss : List ℕ) (roots : ℕ) where
   -- So does one in slots of zeros.
   pub indexed-new : (n : ℕ) → 0 < roots → roots + 2 * length hs ≤ n → n < 65536 → Indexed hs ss roots (replicate n 0) 0
   indexed-new n some room few =
-      indexed-none (replicate n 0) (cleared roots n some (omega arith) few) (omega (arith, length-replicate {A = ℕ} n 0))
+      indexed-none (replicate n 0) (cleared n few) some (omega (arith, length-replicate {A = ℕ} n 0))
 
   -- Entry n is written into an empty slot e, to which its own path leads.
   module _ (slots : List ℕ) (n e : ℕ) (old : Indexed hs ss roots slots n) (small : n < length hs) (empty : getD slots e 0 ≡ 0)

@@ -64,9 +64,7 @@ module _ (heads seconds : List ℕ) where
   Told roots slots i TooDeep = Unit
 
 -- slots for an index, with no link yet
-pub record Cleared (roots : ℕ) (slots : List ℕ) : Type 0 where
-  pub some-root : 0 < roots
-  pub root-slots : roots ≤ length slots
+pub record Cleared (slots : List ℕ) : Type 0 where
   pub few : length slots < 65536
   pub empty : (p : ℕ) → getD slots p 0 ≡ 0
 

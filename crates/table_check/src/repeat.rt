@@ -55,19 +55,19 @@ fn repeated_of_many(heads: &[u16], seconds: &[u16]) -> Place
 // The same of any number of entries, by an index in the slots that are lent; where these are too few, it lends itself
 // more. The compiler doesn't take a function with large arrays into one that calls itself: so these are no part of the
 // frame for a small table, where they would cost more than the whole search.
-fn repeated_in(heads: &[u16], seconds: &[u16], slots: &mut [u16], roots: usize) -> Place
-    requires { ⌜ AfterFour (now heads) (now seconds) × Cleared roots (now slots) ⌝ }
+fn repeated_in(heads: &[u16], seconds: &[u16], slots: &mut [u16]) -> Place
+    requires { ⌜ AfterFour (now heads) (now seconds) × Cleared (now slots) ⌝ }
     ensures { λ r. ⌜ r ≡ repeatedEntry (now (heads .entry)) (now (seconds .entry)) ⌝ }
 {
-    if roots + 2 * heads.len() <= slots.len() {
-        if let Search::Ended(place) = repeated_by(heads, seconds, slots, roots, heads.len()) {
+    if SOME_ROOTS + 2 * heads.len() <= slots.len() {
+        if let Search::Ended(place) = repeated_by(heads, seconds, slots, SOME_ROOTS, SOME) {
             return place;
         }
         return repeated_by_head(heads, seconds);
     }
     if heads.len() <= SOME {
         let mut some = [0u16; SOME_ROOTS + 2 * SOME];
-        return repeated_in(heads, seconds, &mut some, SOME_ROOTS);
+        return repeated_in(heads, seconds, &mut some);
     }
     repeated_of_many(heads, seconds)
 }
@@ -90,6 +90,12 @@ pub(crate) fn repeated_entry(heads: &[u16], seconds: &[u16]) -> Place
             return place;
         }
     }
-    let mut slots = [0u16; FEW_ROOTS + 2 * FEW];
-    repeated_in(heads, seconds, &mut slots, FEW_ROOTS)
+    if heads.len() <= FEW {
+        let mut slots = [0u16; FEW_ROOTS + 2 * FEW];
+        if let Search::Ended(place) = repeated_by(heads, seconds, &mut slots, FEW_ROOTS, FEW) {
+            return place;
+        }
+    }
+    let mut none = [0u16; 0];
+    repeated_in(heads, seconds, &mut none)
 }

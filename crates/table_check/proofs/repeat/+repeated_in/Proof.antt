@@ -19,7 +19,7 @@ use Rattle.table_check.proofs.repeat.+repeated_in.Tie.{close}
 
 -- how many slots are wanting
 abbrev μ-repeated-in : Measures 3 repeated-in-kinds.ps ℕ
-μ-repeated-in κs a = a .1 .1 .1 .0 + 2 * length (a .0 .now) - length (a .1 .1 .0 .now)
+μ-repeated-in κs a = 512 + 2 * length (a .0 .now) - length (a .1 .1 .0 .now)
 
 -- what it is given at the measure t, and what a call of itself asks below t
 abbrev at : ℕ → In 3 repeated-in-kinds.ps
@@ -44,12 +44,12 @@ claims t = (
 add-if1 : (t : ℕ) → lts.Need-add-if1 (claims t) (at t) repeated-in.Post
 add-if1 t c =
     let p = c .before .before .before .pre .1 in
-    omega (arith, p .0 .few, p .1 .root-slots, p .1 .few)
+    omega (arith, p .0 .few)
 
 repeated-by-requires : (t : ℕ) → lts.Need-repeated-by-requires (claims t) (at t) repeated-in.Post
 repeated-by-requires t c κs =
     let p = c .before .before .before .before .before .pre .1 in
-    (p .0 .alike, indexed-none _ _ _ _ (p .1) (omega arith))
+    (p .0 .alike, indexed-none _ _ 512 _ (p .1) (omega arith) (omega arith))
 
 returns : (t : ℕ) → lts.Need-returns (claims t) (at t) repeated-in.Post
 returns t c = ended _ _ _ (c .before .before .before .before .before .repeated-by .ensures) (c .before .place .given .1)
@@ -57,7 +57,7 @@ returns t c = ended _ _ _ (c .before .before .before .before .before .repeated-b
 repeated-in-requires : (t : ℕ) → lts.Need-repeated-in-requires (claims t) (at t) repeated-in.Post
 repeated-in-requires t c κs =
     let p = c .before .before .before .before .before .before .pre in
-    (omega (arith, p .0), (p .1 .0, cleared 512 1024 (omega arith) (omega arith) (omega arith)))
+    (omega (arith, p .0), (p .1 .0, cleared 1024 (omega arith)))
 
 pub +repeated-in-spec : {M : Type 1} → statement M
 +repeated-in-spec =

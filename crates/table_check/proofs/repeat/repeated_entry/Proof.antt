@@ -1,5 +1,5 @@
--- `table_check::repeat::repeated_entry` meets its contract: the slots have no link yet, and an index for the fewest has
--- room for them. Assumes nothing.
+-- `table_check::repeat::repeated_entry` meets its contract: each index has room for its entries, and no link yet.
+-- Assumes nothing.
 use native.Mathlib.Omega.{arith}
 use borrow.Author.Needs.{needs}
 use Rattle.table_check.proofs.Trees.{cleared, indexed-new}
@@ -14,9 +14,15 @@ repeated-by-requires c κs =
 returns : tie.Need-returns
 returns c = ended _ _ _ (c .before .before .before .before .repeated-by .ensures) (c .before .place .given .1)
 
+repeated-by-requires-2 : tie.Need-repeated-by-requires-2
+repeated-by-requires-2 c κs =
+    (c .before .before .before .before .before .pre .alike, indexed-new _ _ 128 256 (omega arith) (omega arith) (omega arith))
+
+returns-2 : tie.Need-returns-2
+returns-2 c = ended _ _ _ (c .before .before .before .before .repeated-by2 .ensures) (c .before .place2 .given .1)
+
 repeated-in-requires : tie.Need-repeated-in-requires
-repeated-in-requires c κs =
-    (c .before .before .before .before .pre, cleared 128 256 (omega arith) (omega arith) (omega arith))
+repeated-in-requires c κs = (c .before .before .before .before .before .pre, cleared 0 (omega arith))
 
 pub repeated-entry-spec : {M : Type 1} → statement M
 repeated-entry-spec =
@@ -26,6 +32,11 @@ repeated-entry-spec =
     repeated-by-requires
     (λ c. search needs)
     returns
+    (λ c. search needs)
+    (λ c. search needs)
+    repeated-by-requires-2
+    (λ c. search needs)
+    returns-2
     (λ c. search needs)
     (λ c. search needs)
     repeated-in-requires
