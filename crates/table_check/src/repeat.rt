@@ -63,9 +63,7 @@ fn repeated_in(heads: &[u16], seconds: &[u16], slots: &mut [u16]) -> Place
         if let Search::Ended(place) = repeated_by(heads, seconds, slots, SOME_ROOTS, SOME) {
             return place;
         }
-        return repeated_by_head(heads, seconds);
-    }
-    if heads.len() <= SOME {
+    } else if heads.len() <= SOME {
         let mut some = [0u16; SOME_ROOTS + 2 * SOME];
         return repeated_in(heads, seconds, &mut some);
     }

@@ -3,6 +3,8 @@
 use borrow.Author.Needs.{needs}
 use Prim.Native.Nat.{ℕ, _<_, _+_, _*_, _-_}
 use native.Mathlib.Omega.{arith}
+use mathlib.Core.Logic.{⊎-elim}
+use mathlib.Core.Path.{ap, _∙_}
 use lib.ListN.{length}
 use borrow.Fn.Kinds.{In}
 use borrow.Fn.PlainCycle.{Measures, is, falls, and}
@@ -11,7 +13,6 @@ use Rattle.table_check.proofs.Search.{ended}
 use Rattle.table_check.proofs.repeat.repeated_in.Reads as repeated-in
 use Rattle.table_check.proofs.repeat.repeated_in.Kinds as repeated-in-kinds
 use Rattle.table_check.proofs.repeat.+repeated_in.Lts-repeated_in as lts
-use Rattle.table_check.proofs.by_head.repeated_by_head.Reads as repeated-by-head-reads
 use Rattle.table_check.proofs.by_index.repeated_by.Reads as repeated-by-reads
 use Rattle.table_check.proofs.repeat.repeated_of_many.Reads as repeated-of-many-reads
 use Rattle.table_check.proofs.repeat.+repeated_in.{statement}
@@ -33,8 +34,6 @@ abbrev claims : ℕ → lts.Claims
 claims t = (
   repeated-by-reads.Asked,
   repeated-by-reads.Learnt,
-  repeated-by-head-reads.Asked,
-  repeated-by-head-reads.Learnt,
   below t,
   repeated-in.Post,
   repeated-of-many-reads.Asked,
@@ -59,6 +58,9 @@ repeated-in-requires t c κs =
     let p = c .before .before .before .before .before .before .pre in
     (omega (arith, p .0), (p .1 .0, cleared 1024 (omega arith)))
 
+same-length-2 : (t : ℕ) → lts.Need-same-length-2 (claims t) (at t) repeated-in.Post
+same-length-2 t c = ⊎-elim (λ w. ap length (w .7) ∙ w .2 .kept .1 .1 .0) (λ w. ap length (w .2)) (c .before .if1 .came)
+
 pub +repeated-in-spec : {M : Type 1} → statement M
 +repeated-in-spec =
     close μ-repeated-in λ t.
@@ -70,11 +72,9 @@ pub +repeated-in-spec : {M : Type 1} → statement M
     (λ c. search needs)
     (returns t)
     (λ c. search needs)
-    (λ c κs. search needs)
-    (λ c. search needs)
-    (λ c. search needs)
     (λ c. search needs)
     (repeated-in-requires t)
     (λ c. search needs)
     (λ c κs. search needs)
+    (same-length-2 t)
     (λ c. search needs)
