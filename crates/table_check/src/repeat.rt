@@ -54,7 +54,8 @@ fn repeated_of_many(heads: &[u16], seconds: &[u16]) -> Place
 
 // The same of any number of entries, by an index in the slots that are lent; where these are too few, it lends itself
 // more. The compiler doesn't take a function with large arrays into one that calls itself: so these are no part of the
-// frame for a small table, where they would cost more than the whole search.
+// frame for a small table, where they would cost more than the whole search. Nor does it take in a long one that is
+// called from two: so the chains have their own frame, which is faster.
 fn repeated_in(heads: &[u16], seconds: &[u16], slots: &mut [u16]) -> Place
     requires { ⌜ AfterFour (now heads) (now seconds) × Cleared (now slots) ⌝ }
     ensures { λ r. ⌜ r ≡ repeatedEntry (now (heads .entry)) (now (seconds .entry)) ⌝ }
@@ -63,7 +64,9 @@ fn repeated_in(heads: &[u16], seconds: &[u16], slots: &mut [u16]) -> Place
         if let Search::Ended(place) = repeated_by(heads, seconds, slots, SOME_ROOTS, SOME) {
             return place;
         }
-    } else if heads.len() <= SOME {
+        return repeated_by_head(heads, seconds);
+    }
+    if heads.len() <= SOME {
         let mut some = [0u16; SOME_ROOTS + 2 * SOME];
         return repeated_in(heads, seconds, &mut some);
     }

@@ -3,8 +3,6 @@
 use borrow.Author.Needs.{needs}
 use Prim.Native.Nat.{ℕ, _<_, _+_, _*_, _-_}
 use native.Mathlib.Omega.{arith}
-use mathlib.Core.Logic.{⊎-elim}
-use mathlib.Core.Path.{ap, _∙_}
 use lib.ListN.{length}
 use borrow.Fn.Kinds.{In}
 use borrow.Fn.PlainCycle.{Measures, is, falls, and}
@@ -13,6 +11,7 @@ use Rattle.table_check.proofs.Search.{ended}
 use Rattle.table_check.proofs.repeat.repeated_in.Reads as repeated-in
 use Rattle.table_check.proofs.repeat.repeated_in.Kinds as repeated-in-kinds
 use Rattle.table_check.proofs.repeat.+repeated_in.Lts-repeated_in as lts
+use Rattle.table_check.proofs.by_head.repeated_by_head.Reads as repeated-by-head-reads
 use Rattle.table_check.proofs.by_index.repeated_by.Reads as repeated-by-reads
 use Rattle.table_check.proofs.repeat.repeated_of_many.Reads as repeated-of-many-reads
 use Rattle.table_check.proofs.repeat.+repeated_in.{statement}
@@ -34,6 +33,8 @@ abbrev claims : ℕ → lts.Claims
 claims t = (
   repeated-by-reads.Asked,
   repeated-by-reads.Learnt,
+  repeated-by-head-reads.Asked,
+  repeated-by-head-reads.Learnt,
   below t,
   repeated-in.Post,
   repeated-of-many-reads.Asked,
@@ -58,9 +59,6 @@ repeated-in-requires t c κs =
     let p = c .before .before .before .before .before .before .pre in
     (omega (arith, p .0), (p .1 .0, cleared 1024 (omega arith)))
 
-same-length-2 : (t : ℕ) → lts.Need-same-length-2 (claims t) (at t) repeated-in.Post
-same-length-2 t c = ⊎-elim (λ w. ap length (w .7) ∙ w .2 .kept .1 .1 .0) (λ w. ap length (w .2)) (c .before .if1 .came)
-
 pub +repeated-in-spec : {M : Type 1} → statement M
 +repeated-in-spec =
     close μ-repeated-in λ t.
@@ -72,9 +70,11 @@ pub +repeated-in-spec : {M : Type 1} → statement M
     (λ c. search needs)
     (returns t)
     (λ c. search needs)
+    (λ c κs. search needs)
+    (λ c. search needs)
+    (λ c. search needs)
     (λ c. search needs)
     (repeated-in-requires t)
     (λ c. search needs)
     (λ c κs. search needs)
-    (same-length-2 t)
     (λ c. search needs)
