@@ -1,6 +1,5 @@
 -- 4 to 8 as the code makes them: each answer is a case of `arrayTests`. Assumes nothing.
 use Prim.Native.Nat.{ℕ, _≤_, _<_}
-use native.Mathlib.Omega.{arith}
 use mathlib.Core.Bool.{Bool, true, false}
 use mathlib.Core.Path.{_≡_, sym, _∙_}
 use mathlib.Core.List.{List, [], _∷_}
@@ -50,16 +49,12 @@ module _ (heads seconds statements : List ℕ) (goal room : ℕ) (sized : SizedT
       pub refused-7 : {p : ℕ} → place ≡ At p → Refused 7 p ≡ all
       refused-7 e = sym (after-6 ∙ applies 7 from-8 (sym found ∙ e))
 
-      module _ (none : place ≡ Nowhere) {count : ℕ} (counted : count ≡ length (signers (entries heads seconds) statements)) where
+      module _ (none : place ≡ Nowhere) where
         after-7 : all ≡ firstRefusal from-8
         after-7 = after-6 ∙ goes-on 7 from-8 (sym found ∙ none)
 
-        pub refused-8 : room < count → Refused 8 0 ≡ all
-        refused-8 short =
-            let less : room < length (signers (entries heads seconds) statements) = omega arith in
-            sym (after-7 ∙ applies-at-0 8 [] (lt-ltb _ _ less))
+        pub refused-8 : room < length (signers (entries heads seconds) statements) → Refused 8 0 ≡ all
+        refused-8 short = sym (after-7 ∙ applies-at-0 8 [] (lt-ltb _ _ short))
 
-        pub passed-8 : count ≤ room → Passed ≡ all
-        passed-8 enough =
-            let fits : length (signers (entries heads seconds) statements) ≤ room = omega arith in
-            sym (after-7 ∙ goes-on-at-0 8 [] (le-ltb _ _ fits) ∙ none-left)
+        pub passed-8 : length (signers (entries heads seconds) statements) ≤ room → Passed ≡ all
+        passed-8 enough = sym (after-7 ∙ goes-on-at-0 8 [] (le-ltb _ _ enough) ∙ none-left)

@@ -10,7 +10,8 @@ use file::numbers::is_outside;
 use signers::collect::signer_count;
 use table_check::check::check_table;
 
-// 4 to 8, over a table of a size that 2 allows.
+// 4 to 8, over a table of a size that 2 allows. The signers are counted only where the room is below S, since they are
+// no more than the statements (`NoMoreThanStatements`).
 pub(crate) fn check_arrays(
     heads: &[u16],
     seconds: &[u16],
@@ -36,7 +37,7 @@ pub(crate) fn check_arrays(
             place: i,
         };
     }
-    if room < signer_count(heads, seconds, statements) {
+    if room < statements.len() && room < signer_count(heads, seconds, statements) {
         return Tested::Refused {
             number: 8,
             place: 0,
