@@ -2,5 +2,6 @@
 pub mod Joined
 pub mod Members
 pub mod Each
+pub mod Among
 pub mod Collected
 pub mod Samples
