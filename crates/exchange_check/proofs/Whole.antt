@@ -1,20 +1,20 @@
 -- The parts of the check are `exchangeAnswer`. Assumes nothing.
-use Prim.Native.Nat.{ℕ, _≤_}
+use Prim.Native.Nat.{ℕ}
 use mathlib.Core.Path.{_≡_, sym, ap, _∙_}
 use mathlib.Core.List.{List, [], _∷_, _++_}
-use lib.ListN.{length, drop}
+use lib.ListN.{drop}
 use Rattle.basics.specs.declared.tested.Tested.{Tested}
 use Rattle.basics.specs.declared.tested.Tested.the-variants as Outcome
 use Rattle.basics.specs.Refusals.{Test, firstRefusal, unlessRefused}
 use Rattle.basics.proofs.Refusals.{joined-refused, joined-passed}
 use Rattle.file.specs.Layout.{layoutTests}
-use Rattle.file.proofs.LayoutLaws.{passed-to-three, sized-most}
+use Rattle.file.proofs.LayoutLaws.{passed-to-three}
 use Rattle.exchange.specs.declared.verdict.ExchangeVerdict.{ExchangeVerdict}
 use Rattle.exchange.specs.declared.verdict.ExchangeVerdict.the-variants.{Equal, Refused}
-use Rattle.exchange.specs.Layout.{exchangeLayout, mostBytes, heads, seconds, firstList, secondList, steps}
+use Rattle.exchange.specs.Layout.{exchangeLayout, heads, seconds, firstList, secondList, steps}
 use Rattle.exchange.specs.Answer.{tests, exchangeAnswer}
 use Rattle.exchange.specs.Proofs.{Sized}
-use Rattle.exchange.proofs.LayoutIs.{bounded, sized}
+use Rattle.exchange.proofs.LayoutIs.{sized}
 use Rattle.exchange.proofs.Lengths.{length-heads}
 use Rattle.exchange.proofs.Answered.{answer-refused}
 use Rattle.exchange_check.specs.Parts.{arrayTests, stepTest, arraysAnswer}
@@ -31,13 +31,9 @@ module _ (file : List ℕ) where
   layout-refused {t} {number} {p} answered e =
       sym (answer-refused file number p .1 (joined-refused (layoutTests exchangeLayout file) from-4 (sym answered ∙ e)))
 
-  -- A file that they let pass has the sizes and the length that the layout asks for,
+  -- A file that they let pass has the sizes and the length that the layout asks for.
   pub layout-passed : {t : Tested} → t ≡ firstRefusal (layoutTests exchangeLayout file) → t ≡ Outcome.Passed → Sized file
   layout-passed answered e = sized file .0 (passed-to-three exchangeLayout file .0 (sym answered ∙ e))
-
-  -- so it is no longer than the longest exchange file.
-  pub at-most : Sized file → length file ≤ mostBytes
-  at-most s = sized-most exchangeLayout bounded file (sized file .1 s)
 
   -- ---- 4 to 15
 

@@ -2,6 +2,7 @@
 ghost use Prim.Native.Nat.{_*_, _≤_};
 ghost use mathlib.Core.Path.{_≡_};
 ghost use lib.ListN.{length};
+ghost use Rattle.file.specs.Rooms.{manyWords};
 ghost use Rattle.table.specs.Tests.{SizedTable};
 ghost use Rattle.exchange.specs.Answer.{exchangeAnswer};
 ghost use Rattle.exchange.specs.Proofs.{Sized};
@@ -13,6 +14,8 @@ use crate::step_tests::check_steps;
 use basics::tested::Tested;
 use exchange::verdict::ExchangeVerdict;
 use file::words::FEW_WORDS;
+use file::words::FEWEST_WORDS;
+use file::words::MANY_WORDS;
 use file::words::read_words;
 use file::words::word_at;
 
@@ -60,6 +63,44 @@ fn check_sized(file: &[u8], words: &mut [u16]) -> ExchangeVerdict
     )
 }
 
+// The same of a file that has no more than MANY_WORDS.
+fn check_many(file: &[u8]) -> ExchangeVerdict
+    requires { ⌜ Sized (now file) × (length (now file) ≤ 2 * manyWords) ⌝ }
+    ensures { λ r. ⌜ r ≡ exchangeAnswer (now (file .entry)) ⌝ }
+{
+    let mut words = [0u16; MANY_WORDS];
+    check_sized(file, &mut words)
+}
+
+// The same of a file of any size.
+fn check_most(file: &[u8]) -> ExchangeVerdict
+    requires { ⌜ Sized (now file) ⌝ }
+    ensures { λ r. ⌜ r ≡ exchangeAnswer (now (file .entry)) ⌝ }
+{
+    let mut words = [0u16; MOST_WORDS];
+    check_sized(file, &mut words)
+}
+
+// The same with these words, or with more where they are too few. The compiler takes no function with large arrays into
+// one that calls itself, so a short file's check has no room for a long file's words in its frame. To enter such a
+// frame would take as long as all else in the check of a small file.
+fn check_in(file: &[u8], words: &mut [u16]) -> ExchangeVerdict
+    requires { ⌜ Sized (now file) ⌝ }
+    ensures { λ r. ⌜ r ≡ exchangeAnswer (now (file .entry)) ⌝ }
+{
+    if file.len() <= 2 * words.len() {
+        return check_sized(file, words);
+    }
+    if file.len() <= 2 * FEW_WORDS {
+        let mut more = [0u16; FEW_WORDS];
+        return check_in(file, &mut more);
+    }
+    if file.len() <= 2 * MANY_WORDS {
+        return check_many(file);
+    }
+    check_most(file)
+}
+
 // The answer for a file of any bytes and length: equal exactly where it carries all proofs (`EqualExactly`), and so
 // only for lists equal in force. Nothing is lent but the file, which is only read.
 pub fn check_exchange(file: &[u8]) -> ExchangeVerdict
@@ -68,10 +109,10 @@ pub fn check_exchange(file: &[u8]) -> ExchangeVerdict
     if let Tested::Refused { number, place } = check_layout(file) {
         return ExchangeVerdict::Refused { number, place };
     }
-    if file.len() <= 2 * FEW_WORDS {
-        let mut words = [0u16; FEW_WORDS];
+    // The smallest files go to their check without a call between, which would take a quarter of their time.
+    let mut words = [0u16; FEWEST_WORDS];
+    if file.len() <= 2 * FEWEST_WORDS {
         return check_sized(file, &mut words);
     }
-    let mut words = [0u16; MOST_WORDS];
-    check_sized(file, &mut words)
+    check_in(file, &mut words)
 }

@@ -3,10 +3,18 @@ ghost use Prim.Native.Nat.{_+_, _*_};
 ghost use mathlib.Core.Path.{_≡_};
 ghost use Rattle.basics.specs.Written.{written};
 ghost use Rattle.file.specs.Words.{fileWords, wordAt};
+use basics::limits::MOST_FORMULAS;
 
-// Room for the words of a short file. An array is cleared before a file's words are read into it, and clearing the
-// longest file's room takes longer than all else in the check of a short file.
+// Rooms for the words of a file, for either kind. An array is cleared before a file's words are read into it, and
+// clearing the longest file's room takes longer than all else in the check of a short file. So there is a room for the
+// smallest files,
+pub const FEWEST_WORDS: usize = 64;
+
+// one for files of a common size,
 pub const FEW_WORDS: usize = 1024;
+
+// and one for the widest tables with few other words.
+pub const MANY_WORDS: usize = 2 * MOST_FORMULAS + FEW_WORDS;
 
 // A word of its two bytes.
 fn word(low: u8, high: u8) -> u16

@@ -1,5 +1,5 @@
 -- The parts of the check are `recordAnswer`, and what it leaves in the list is `ListAfter`. Assumes nothing.
-use Prim.Native.Nat.{ℕ, _≤_}
+use Prim.Native.Nat.{ℕ}
 use mathlib.Core.Path.{_≡_, sym, ap, _∙_}
 use mathlib.Core.List.{List, [], _∷_, _++_}
 use lib.ListN.{length, drop}
@@ -9,15 +9,15 @@ use Rattle.basics.specs.Refusals.{Test, firstRefusal, unlessRefused}
 use Rattle.basics.proofs.Refusals.{joined-refused, joined-passed}
 use Rattle.basics.proofs.Written.{written-fits}
 use Rattle.file.specs.Layout.{layoutTests}
-use Rattle.file.proofs.LayoutLaws.{passed-to-three, sized-most}
+use Rattle.file.proofs.LayoutLaws.{passed-to-three}
 use Rattle.signers.proofs.Each.{signers-are}
 use Rattle.record.specs.declared.verdict.RecordVerdict.{RecordVerdict}
 use Rattle.record.specs.declared.verdict.RecordVerdict.the-variants.{Granted, Refused}
-use Rattle.record.specs.Layout.{recordLayout, mostBytes, goal, heads, seconds, statements, steps, table, signers}
+use Rattle.record.specs.Layout.{recordLayout, goal, heads, seconds, statements, steps, table, signers}
 use Rattle.record.specs.Answer.{tests, recordAnswer}
 use Rattle.record.specs.ListAfter.{ListAfter}
 use Rattle.record.specs.Proof.{Sized}
-use Rattle.record.proofs.LayoutIs.{bounded, sized}
+use Rattle.record.proofs.LayoutIs.{sized}
 use Rattle.record.proofs.Lengths.{length-heads}
 use Rattle.record.proofs.Granted.{granted-exactly}
 use Rattle.record.proofs.Answered.{answer-refused}
@@ -35,13 +35,9 @@ module _ (file : List ℕ) where
   layout-refused room {t} {number} {p} answered e =
       sym (answer-refused file room number p .1 (joined-refused (layoutTests recordLayout file) (from-4 room) (sym answered ∙ e)))
 
-  -- A file that they let pass has the sizes and the length that the layout asks for,
+  -- A file that they let pass has the sizes and the length that the layout asks for.
   pub layout-passed : {t : Tested} → t ≡ firstRefusal (layoutTests recordLayout file) → t ≡ Outcome.Passed → Sized file
   layout-passed answered e = sized file .0 (passed-to-three recordLayout file .0 (sym answered ∙ e))
-
-  -- so it is no longer than the longest record.
-  pub at-most : Sized file → length file ≤ mostBytes
-  at-most s = sized-most recordLayout bounded file (sized file .1 s)
 
   -- ---- 4 to 15
 

@@ -2,6 +2,7 @@
 ghost use Prim.Native.Nat.{_*_, _≤_};
 ghost use mathlib.Core.Path.{_≡_};
 ghost use lib.ListN.{length};
+ghost use Rattle.file.specs.Rooms.{manyWords};
 ghost use Rattle.table.specs.Tests.{SizedTable};
 ghost use Rattle.record.specs.Answer.{recordAnswer};
 ghost use Rattle.record.specs.ListAfter.{ListAfter};
@@ -13,6 +14,8 @@ use crate::layout::check_layout;
 use crate::step_tests::check_steps;
 use basics::tested::Tested;
 use file::words::FEW_WORDS;
+use file::words::FEWEST_WORDS;
+use file::words::MANY_WORDS;
 use file::words::read_words;
 use file::words::word_at;
 use record::verdict::RecordVerdict;
@@ -83,6 +86,47 @@ fn check_sized(file: &[u8], words: &mut [u16], signers: &mut [u16]) -> RecordVer
     )
 }
 
+// The same of a file that has no more than MANY_WORDS.
+fn check_many(file: &[u8], signers: &mut [u16]) -> RecordVerdict
+    requires { ⌜ Sized (now file) × (length (now file) ≤ 2 * manyWords) ⌝ }
+    ensures { λ r. ⌜ r ≡ recordAnswer (now (file .entry)) (length (now (signers .entry))) ⌝ }
+    ensures { λ r. ⌜ ListAfter (now (file .entry)) r (now (signers .entry)) (now (signers .exit)) ⌝ }
+{
+    let mut words = [0u16; MANY_WORDS];
+    check_sized(file, &mut words, signers)
+}
+
+// The same of a file of any size.
+fn check_most(file: &[u8], signers: &mut [u16]) -> RecordVerdict
+    requires { ⌜ Sized (now file) ⌝ }
+    ensures { λ r. ⌜ r ≡ recordAnswer (now (file .entry)) (length (now (signers .entry))) ⌝ }
+    ensures { λ r. ⌜ ListAfter (now (file .entry)) r (now (signers .entry)) (now (signers .exit)) ⌝ }
+{
+    let mut words = [0u16; MOST_WORDS];
+    check_sized(file, &mut words, signers)
+}
+
+// The same with these words, or with more where they are too few. The compiler takes no function with large arrays into
+// one that calls itself, so a short file's check has no room for a long file's words in its frame. To enter such a
+// frame would take as long as all else in the check of a small file.
+fn check_in(file: &[u8], words: &mut [u16], signers: &mut [u16]) -> RecordVerdict
+    requires { ⌜ Sized (now file) ⌝ }
+    ensures { λ r. ⌜ r ≡ recordAnswer (now (file .entry)) (length (now (signers .entry))) ⌝ }
+    ensures { λ r. ⌜ ListAfter (now (file .entry)) r (now (signers .entry)) (now (signers .exit)) ⌝ }
+{
+    if file.len() <= 2 * words.len() {
+        return check_sized(file, words, signers);
+    }
+    if file.len() <= 2 * FEW_WORDS {
+        let mut more = [0u16; FEW_WORDS];
+        return check_in(file, &mut more, signers);
+    }
+    if file.len() <= 2 * MANY_WORDS {
+        return check_many(file, signers);
+    }
+    check_most(file, signers)
+}
+
 // The answer for a file of any bytes and length. On a grant the signers stand in the lent list from its start, in some
 // order, and the words after them are as they were; on a refusal the whole list is.
 pub fn check_record(file: &[u8], signers: &mut [u16]) -> RecordVerdict
@@ -92,10 +136,10 @@ pub fn check_record(file: &[u8], signers: &mut [u16]) -> RecordVerdict
     if let Tested::Refused { number, place } = check_layout(file) {
         return RecordVerdict::Refused { number, place };
     }
-    if file.len() <= 2 * FEW_WORDS {
-        let mut words = [0u16; FEW_WORDS];
+    // The smallest files go to their check without a call between, which would take a quarter of their time.
+    let mut words = [0u16; FEWEST_WORDS];
+    if file.len() <= 2 * FEWEST_WORDS {
         return check_sized(file, &mut words, signers);
     }
-    let mut words = [0u16; MOST_WORDS];
-    check_sized(file, &mut words, signers)
+    check_in(file, &mut words, signers)
 }

@@ -1,6 +1,6 @@
 -- `exchange_check::check::check_exchange` meets its contract: 1 to 3, and then the rest. Assumes nothing.
 use borrow.Author.Needs.{needs}
-use Rattle.exchange_check.proofs.Whole.{layout-refused, layout-passed, at-most}
+use Rattle.exchange_check.proofs.Whole.{layout-refused, layout-passed}
 use Rattle.exchange_check.proofs.check.check_exchange.Statement.{statement}
 use Rattle.exchange_check.proofs.check.check_exchange.Tie as tie
 
@@ -14,11 +14,11 @@ check-sized-requires c κs =
     let t = c .before .before .before .before in
     (layout-passed (t .before .before .args .file .now) (t .check-layout .ensures) (c .before .before .enum-told .given .1), search needs)
 
-check-sized-requires-2 : tie.Need-check-sized-requires-2
-check-sized-requires-2 c κs =
+check-in-requires : tie.Need-check-in-requires
+check-in-requires c κs =
     let t = c .before .before .before .before in
-    let passed = layout-passed (t .before .before .args .file .now) (t .check-layout .ensures) (c .before .before .enum-told .given .1) in
-    (passed, at-most _ passed)
+    let told = c .before .before .enum-told .given .1 in
+    layout-passed (t .before .before .args .file .now) (t .check-layout .ensures) told
 
 pub check-exchange-spec : {M : Type 1} → statement M
 check-exchange-spec =
@@ -33,5 +33,5 @@ check-exchange-spec =
     check-sized-requires
     (λ c. search needs)
     (λ c. search needs)
-    check-sized-requires-2
+    check-in-requires
     (λ c. search needs))

@@ -1,5 +1,5 @@
--- `record_check::arrays::check_arrays` meets its contract: each answer is a case of `arrayTests`. Room for S is room for
--- the signers, who are no more. Assumes nothing.
+-- `record_check::arrays::check_arrays` meets its contract: each answer is a case of `arrayTests`. Room for S is room
+-- for the signers, who are no more. Assumes nothing.
 use native.Mathlib.Omega.{arith}
 use mathlib.Core.Logic.{⊎-elim}
 use borrow.Author.Needs.{needs}

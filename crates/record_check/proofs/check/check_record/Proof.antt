@@ -1,7 +1,7 @@
 -- `record_check::check::check_record` meets its contract: 1 to 3, and then the rest. Assumes nothing.
 use mathlib.Core.Path.{refl}
 use borrow.Author.Needs.{needs}
-use Rattle.record_check.proofs.Whole.{layout-refused, layout-passed, at-most}
+use Rattle.record_check.proofs.Whole.{layout-refused, layout-passed}
 use Rattle.record_check.proofs.check.check_record.Statement.{statement}
 use Rattle.record_check.proofs.check.check_record.Tie as tie
 
@@ -15,11 +15,11 @@ check-sized-requires c κs =
     let t = c .before .before .before .before .before in
     (layout-passed (t .before .before .before .args .file .now) (t .check-layout .ensures) (c .before .before .before .enum-told .given .1), search needs)
 
-check-sized-requires-2 : tie.Need-check-sized-requires-2
-check-sized-requires-2 c κs =
+check-in-requires : tie.Need-check-in-requires
+check-in-requires c κs =
     let t = c .before .before .before .before .before in
-    let passed = layout-passed (t .before .before .before .args .file .now) (t .check-layout .ensures) (c .before .before .before .enum-told .given .1) in
-    (passed, at-most _ passed)
+    let told = c .before .before .before .enum-told .given .1 in
+    layout-passed (t .before .before .before .args .file .now) (t .check-layout .ensures) told
 
 pub check-record-spec : {M : Type 1} → statement M
 check-record-spec =
@@ -35,6 +35,6 @@ check-record-spec =
     (λ c. search needs)
     (λ c. search needs)
     (λ c. search needs)
-    check-sized-requires-2
+    check-in-requires
     (λ c. search needs)
     (λ c. search needs))
