@@ -93,6 +93,7 @@ impl Walk {
             depth: self.depth,
             held: self.held,
         };
+        // One place each for the walk of a premise and what it comes to: else a frame would have them once for each arm.
         let mut premise = walk;
         let mut walked = Walked::Done(walk);
         loop {
@@ -204,6 +205,7 @@ impl Walk {
             depth: self.depth,
             held: self.held,
         };
+        // One place each for the walk of a premise and what it comes to: else a frame would have them once for each arm.
         let mut premise = walk;
         let mut walked = Walked::Done(walk);
         loop {
