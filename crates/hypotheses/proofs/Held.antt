@@ -2,7 +2,7 @@
 use Prim.Native.Nat.{ℕ, zero, suc, _<_}
 use native.Mathlib.Omega.{arith}
 use mathlib.Core.Bool.{Bool, true, false}
-use mathlib.Core.Path.{_≡_, refl, sym, ap, _∙_}
+use mathlib.Core.Path.{_≡_, refl, sym, _∙_}
 use mathlib.Core.List.{List, [], _∷_, _++_, append-nil}
 use lib.ListN.{getD, replicate}
 use lib.Seq.{append-snoc}
@@ -10,8 +10,8 @@ use lib.Dec.{ltb}
 use Rattle.basics.specs.Choice.{both}
 use Rattle.basics.specs.Membership.{holds}
 use Rattle.basics.proofs.Membership.{holds-last, holds-append}
-use Rattle.hypotheses.specs.Slots.{half, isHeld, shown, heldOne, countOne, heldAll, countAll}
-use Rattle.hypotheses.specs.Trail.{marked, Live}
+use Rattle.hypotheses.specs.Slots.{half, shown, heldOne, countOne, heldAll, countAll}
+use Rattle.hypotheses.specs.Trail.{Live}
 use Rattle.hypotheses.proofs.Shown.{shows-shown}
 use Rattle.hypotheses.proofs.Trail.{live-hold, half-hold, shows-hold}
 

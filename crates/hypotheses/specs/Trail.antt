@@ -1,7 +1,6 @@
 -- What a walk leaves of the slots: nothing that is held for its premises, and all that was held before. For the
 -- contracts of private functions of `walk`. Assumes nothing.
 use Prim.Native.Nat.{ℕ, zero, suc, _+_, _<_, _≤_}
-use mathlib.Core.Bool.{Bool}
 use mathlib.Core.Path.{_≡_}
 use mathlib.Core.List.{List}
 use lib.Dec.{eqb}

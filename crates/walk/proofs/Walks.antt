@@ -4,12 +4,11 @@
 use Prim.Native.Nat.{ℕ, suc, _+_, _<_, _≤_}
 use native.Mathlib.Omega.{arith}
 use native.Mathlib.Numerals.{add-one}
-use mathlib.Core.Bool.{Bool}
 use mathlib.Core.Path.{_≡_, refl, sym, ap, _∙_, subst}
 use mathlib.Core.List.{List, [], _∷_, _++_, append-nil, map}
 use lib.ListN.{length, getD}
 use lib.Seq.{append-snoc}
-use Rattle.basics.specs.Limits.{mostDepth, mostFormulas}
+use Rattle.basics.specs.Limits.{mostDepth}
 use Rattle.basics.specs.Membership.{holds}
 use Rattle.basics.proofs.Membership.{holds-append}
 use Rattle.table.specs.declared.entry.Entry.{Entry}
@@ -27,12 +26,12 @@ use Rattle.steps.specs.Applies.{Takes}
 use Rattle.steps.specs.Run.{after}
 use Rattle.steps.specs.Figure1.{same, step}
 use Rattle.steps.specs.Parts.{andThen, walkFrom}
-use Rattle.steps.proofs.Alike.{AsNamed, walk-named}
+use Rattle.steps.proofs.Alike.{walk-named}
 use Rattle.steps.proofs.Parts.{refusedAt, uses-words, walk-done, walk-ends, walk-steps, one-after-another}
 use Rattle.steps.proofs.Steps.{step-takes}
 use Rattle.steps.proofs.Cases.{OfPremises}
-use Rattle.hypotheses.specs.Slots.{half, isHeld, shown, heldOne, countOne, released}
-use Rattle.hypotheses.specs.Trail.{Kept, Live, Undoes}
+use Rattle.hypotheses.specs.Slots.{half, shown, heldOne, countOne, released}
+use Rattle.hypotheses.specs.Trail.{Kept, Undoes}
 use Rattle.hypotheses.proofs.Shown.{shows-shown}
 use Rattle.hypotheses.proofs.Trail.{kept-nothing, same-half, live-most, live-kept, live-hold, half-hold, count-hold, undoes-nothing, undoes-kept, undoes-hold, undoes-length}
 use Rattle.hypotheses.proofs.Held.{shown-hold}

@@ -1,5 +1,4 @@
 -- `hypotheses::hypotheses::is_held` meets its contract: a number past the marks is not held. Assumes nothing.
-use native.Mathlib.Omega.{arith}
 use borrow.Author.Needs.{needs}
 use borrow.Author.Tests.{lt-ltb, le-ltb}
 use Rattle.hypotheses.proofs.hypotheses.is_held.Statement.{statement}

@@ -3,7 +3,6 @@
 use Prim.Native.Nat.{ℕ, _<_, _-_}
 use native.Mathlib.Omega.{arith}
 use borrow.Author.Needs.{needs}
-use lib.ListN.{length, length-replicate}
 use Rattle.hypotheses.specs.Slots.{half}
 use Rattle.walk.proofs.Held.{empty-zeros, marks-table}
 use borrow.Fn.Kinds.{In}
