@@ -2,6 +2,7 @@
 
 use super::files::File;
 use super::measure::Contender;
+use std::fmt::Debug;
 use std::hint::black_box;
 use wethrynda::{Exchange, Verdict, MOST_SIGNERS};
 
@@ -45,27 +46,55 @@ fn repeat<'a, T>(mut call: impl FnMut() -> T + 'a) -> Contender<'a> {
     })
 }
 
-/// Granted with the same signers by all three, or equal for all three; otherwise the benchmark ends
-/// here.
+/// A word that is no principal's number: what the lists hold that are lent for the signers.
+const LENT: u16 = u16::MAX;
+
+/// All three give the answer that the file was built for; otherwise the benchmark ends here.
 pub fn assert_answers(name: &str, file: &File) {
-    if !file.is_record {
-        assert_eq!(wethrynda::check_exchange(&file.bytes), Exchange::Equal, "{name}, proved");
-        assert_eq!(plain::check_exchange(&file.bytes), Ok(()), "{name}, plain");
-        assert_eq!(second::check_exchange(&file.bytes), Ok(()), "{name}, second");
-        return;
+    if file.is_record {
+        assert_record(name, file);
+    } else {
+        assert_exchange(name, file);
     }
-    let [mut proved, mut plain] = [[0; MOST_SIGNERS]; 2];
-    let signers = second::check_record(&file.bytes, MOST_SIGNERS)
-        .unwrap_or_else(|refusal| panic!("{name}, second: {refusal:?}"));
+}
+
+/// Granted with the same signers by all three, or refused by all three with the lists as they were.
+fn assert_record(name: &str, file: &File) {
+    let [mut by_proved, mut by_plain] = [[LENT; MOST_SIGNERS]; 2];
+    let proved = match wethrynda::check_record(&file.bytes, &mut by_proved) {
+        Verdict::Granted(count) => Ok(count),
+        Verdict::Refused { number, place } => Err((number, place)),
+    };
+    let plain = plain::check_record(&file.bytes, &mut by_plain);
+    let plain = plain.map_err(|refusal| (refusal.number, refusal.place));
+    let second = second::check_record(&file.bytes, MOST_SIGNERS);
+    let second = second.map_err(|refusal| (refusal.number, refusal.place));
+    let signers = second.clone().unwrap_or_default();
     let count = signers.len();
-    assert_eq!(
-        wethrynda::check_record(&file.bytes, &mut proved),
-        Verdict::Granted(count),
-        "{name}, proved"
-    );
-    assert_eq!(plain::check_record(&file.bytes, &mut plain), Ok(count), "{name}, plain");
-    for list in [&mut proved, &mut plain] {
+    assert_same(name, [proved, plain, second.map(|_| count)], file.refusal.map_or(Ok(count), Err));
+    for list in [&mut by_proved, &mut by_plain] {
         list[..count].sort();
         assert!(list[..count].iter().eq(&signers), "{name}, signers");
+        assert!(list[count..].iter().all(|&word| word == LENT), "{name}, words after the signers");
+    }
+}
+
+/// Equal for all three, or refused by all three.
+fn assert_exchange(name: &str, file: &File) {
+    let proved = match wethrynda::check_exchange(&file.bytes) {
+        Exchange::Equal => Ok(()),
+        Exchange::Refused { number, place } => Err((number, place)),
+    };
+    let plain = plain::check_exchange(&file.bytes);
+    let plain = plain.map_err(|refusal| (refusal.number, refusal.place));
+    let second = second::check_exchange(&file.bytes);
+    let second = second.map_err(|refusal| (refusal.number, refusal.place));
+    assert_same(name, [proved, plain, second], file.refusal.map_or(Ok(()), Err));
+}
+
+/// What the three answer, in this order, is the one answer that is right.
+fn assert_same<T: Debug + PartialEq>(name: &str, answers: [T; 3], right: T) {
+    for (answer, by) in answers.iter().zip(["proved", "plain", "second"]) {
+        assert_eq!(*answer, right, "{name}, {by}");
     }
 }
