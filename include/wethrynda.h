@@ -37,7 +37,7 @@ extern "C" {
  * - The file has `file_length` bytes that may be read, and the list, which is lent for the call, `signers_length` words
  *   that may be read and written. They do not overlap, and no other thread changes either until the call is over.
  *   (Calls may run at the same time on lists of their own.)
- * - The thread has about 600 KB of stack left: a proof may be 512 steps deep, and the file's words are held on the
+ * - The thread has about 300 KB of stack left: a proof may be 512 steps deep, and the file's words are held on the
  *   stack. Main threads have that; a thread that is made with a small stack may not, and then the process ends.
  */
 uint64_t wethrynda_check_record(const uint8_t *file, size_t file_length, uint16_t *signers, size_t signers_length);
@@ -68,7 +68,7 @@ static inline uint64_t wethrynda_record(const uint8_t *file, size_t file_length,
  * - The pointer is not null, even where the length is 0. A pointer to any object will do there.
  * - The file has `file_length` bytes that may be read, and no other thread changes them until the call is over. (Calls
  *   may run at the same time, on the same file too.)
- * - The thread has about 600 KB of stack left, as for a record.
+ * - The thread has about 300 KB of stack left, as for a record.
  */
 uint64_t wethrynda_check_exchange(const uint8_t *file, size_t file_length);
 

@@ -57,7 +57,7 @@ fn refusal(answer: u64) -> Option<(u8, usize)> {
 /// lent, each once, in an order that is free; the words after them are as they were. Refused, no
 /// word of the list has changed. A list shorter than the number of signers is refusal 8.
 ///
-/// It needs about 600 KB of stack, which a thread has by default.
+/// It needs about 300 KB of stack, which a thread has by default.
 pub fn check_record(file: &[u8], signers: &mut [u16]) -> Verdict {
     let (list, room) = (signers.as_mut_ptr(), signers.len());
     // SAFETY: both pointers are those of slices, so they are not null and are aligned, even where
@@ -74,7 +74,7 @@ pub fn check_record(file: &[u8], signers: &mut [u16]) -> Verdict {
 
 /// Checks an exchange file: any bytes, of any length. Nothing is changed.
 ///
-/// It needs about 600 KB of stack, which a thread has by default.
+/// It needs about 300 KB of stack, which a thread has by default.
 pub fn check_exchange(file: &[u8]) -> Exchange {
     // SAFETY: the pointer is that of a slice, so it is not null, even where the slice is empty, and
     // the length is its own. The function's contract asks nothing more, and it is proved to stay

@@ -3,7 +3,7 @@
 mod common;
 
 use builder::samples::{K, T};
-use common::{exchange, file_of, noise, on_a_small_stack, samples, top, Answer};
+use common::{deepest, exchange, file_of, noise, on_a_small_stack, samples, top, Answer, Deepest};
 use std::fs;
 use wethrynda::{check_exchange, Exchange};
 
@@ -299,12 +299,22 @@ fn the_longest_file() {
 
 #[test]
 fn a_stack_as_large_as_the_header_says() {
-    on_a_small_stack(|| {
+    let Deepest { table, statements, goal, proof, too_deep } = deepest();
+    on_a_small_stack(move || {
         assert_equal(&longest(), "the longest file");
         // 32 proofs, each 512 deep
         let steps = deep(512).repeat(32);
         assert_equal(&exchange(&T, &[1; 16], &[1; 16], &steps), "as deep as can be");
         assert_refused(&exchange(&T, &[1], &[1], &deep(513)), 10, 512, "513 deep");
+        // the goal from the atom, 8 times; the atom by and left from the goal, 256 times
+        let steps = [proof.repeat(8), [24576 + goal, 0].repeat(256)].concat();
+        let file = exchange(&table, &[0; 256], &[goal; 8], &steps);
+        assert_equal(&file, "512 deep, a call for each step");
+        for (about, goal, steps) in too_deep {
+            let file = exchange(&table, &statements, &[goal; 256], &steps);
+            assert_eq!(file.len(), 50_184);
+            assert_refused(&file, 10, 512, about);
+        }
     });
 }
 

@@ -3,7 +3,7 @@
 mod common;
 
 use builder::samples::{A, T};
-use common::{file_of, noise, on_a_small_stack, record, samples, top, Answer};
+use common::{deepest, file_of, noise, on_a_small_stack, record, samples, top, Answer, Deepest};
 use std::fs;
 use wethrynda::{check_record, Verdict, MOST_SIGNERS};
 
@@ -272,9 +272,17 @@ fn the_largest_record() {
 #[test]
 fn a_stack_as_large_as_the_header_says() {
     let (largest, signers) = largest();
+    let Deepest { table, statements, goal, proof, too_deep } = deepest();
     on_a_small_stack(move || {
         assert_granted(&deep(509, &[4096, 0]), 1, &[7], "512 deep");
         assert_refused(&deep(510, &[4096, 0]), 1, 10, 512, "513 deep");
         assert_granted(&largest, MOST_SIGNERS, &signers, "the largest record");
+        let over_table = |goal, steps: &[u16]| record(&table, &statements, goal, steps);
+        assert_granted(&over_table(goal, &proof), 1, &[7], "512 deep, a call for each step");
+        for (about, goal, steps) in too_deep {
+            let file = over_table(goal, &steps);
+            assert_eq!(file.len(), 49_672);
+            assert_refused(&file, 1, 10, 512, about);
+        }
     });
 }

@@ -1,6 +1,8 @@
 //! What the tests share: the samples as they stand in the repository, with the lines that are
 //! stored for them; files built from their parts.
 #![allow(dead_code, unused_imports)] // each of them uses a part
+mod deepest;
+
 use builder::layout;
 use builder::random::Random;
 use std::fs;
@@ -8,6 +10,7 @@ use std::path::{Path, PathBuf};
 
 /// Words as bytes.
 pub use builder::layout::bytes as file_of;
+pub use deepest::{deepest, Deepest};
 
 /// The top of the repository.
 pub fn top() -> PathBuf {
@@ -82,6 +85,6 @@ pub fn noise() -> impl Iterator<Item = Vec<u8>> {
 
 /// Runs on a thread whose stack is hardly larger than the header says.
 pub fn on_a_small_stack(run: impl FnOnce() + Send + 'static) {
-    let thread = std::thread::Builder::new().stack_size(640 * 1024).spawn(run).expect("a thread");
+    let thread = std::thread::Builder::new().stack_size(320 * 1024).spawn(run).expect("a thread");
     thread.join().expect("the checks on a small stack");
 }
