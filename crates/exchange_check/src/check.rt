@@ -2,7 +2,6 @@
 ghost use Prim.Native.Nat.{_*_, _≤_};
 ghost use mathlib.Core.Path.{_≡_};
 ghost use lib.ListN.{length};
-ghost use Rattle.file.specs.Rooms.{manyWords};
 ghost use Rattle.table.specs.Tests.{SizedTable};
 ghost use Rattle.exchange.specs.Answer.{exchangeAnswer};
 ghost use Rattle.exchange.specs.Proofs.{Sized};
@@ -63,20 +62,15 @@ fn check_sized(file: &[u8], words: &mut [u16]) -> ExchangeVerdict
     )
 }
 
-// The same of a file that has no more than MANY_WORDS.
-fn check_many(file: &[u8]) -> ExchangeVerdict
-    requires { ⌜ Sized (now file) × (length (now file) ≤ 2 * manyWords) ⌝ }
-    ensures { λ r. ⌜ r ≡ exchangeAnswer (now (file .entry)) ⌝ }
-{
-    let mut words = [0u16; MANY_WORDS];
-    check_sized(file, &mut words)
-}
-
-// The same of a file of any size.
-fn check_most(file: &[u8]) -> ExchangeVerdict
+// The same with room for the words of any file.
+fn check_large(file: &[u8]) -> ExchangeVerdict
     requires { ⌜ Sized (now file) ⌝ }
     ensures { λ r. ⌜ r ≡ exchangeAnswer (now (file .entry)) ⌝ }
 {
+    if file.len() <= 2 * MANY_WORDS {
+        let mut words = [0u16; MANY_WORDS];
+        return check_sized(file, &mut words);
+    }
     let mut words = [0u16; MOST_WORDS];
     check_sized(file, &mut words)
 }
@@ -95,10 +89,7 @@ fn check_in(file: &[u8], words: &mut [u16]) -> ExchangeVerdict
         let mut more = [0u16; FEW_WORDS];
         return check_in(file, &mut more);
     }
-    if file.len() <= 2 * MANY_WORDS {
-        return check_many(file);
-    }
-    check_most(file)
+    check_large(file)
 }
 
 // The answer for a file of any bytes and length: equal exactly where it carries all proofs (`EqualExactly`), and so

@@ -2,7 +2,6 @@
 ghost use Prim.Native.Nat.{_*_, _≤_};
 ghost use mathlib.Core.Path.{_≡_};
 ghost use lib.ListN.{length};
-ghost use Rattle.file.specs.Rooms.{manyWords};
 ghost use Rattle.table.specs.Tests.{SizedTable};
 ghost use Rattle.record.specs.Answer.{recordAnswer};
 ghost use Rattle.record.specs.ListAfter.{ListAfter};
@@ -86,22 +85,16 @@ fn check_sized(file: &[u8], words: &mut [u16], signers: &mut [u16]) -> RecordVer
     )
 }
 
-// The same of a file that has no more than MANY_WORDS.
-fn check_many(file: &[u8], signers: &mut [u16]) -> RecordVerdict
-    requires { ⌜ Sized (now file) × (length (now file) ≤ 2 * manyWords) ⌝ }
-    ensures { λ r. ⌜ r ≡ recordAnswer (now (file .entry)) (length (now (signers .entry))) ⌝ }
-    ensures { λ r. ⌜ ListAfter (now (file .entry)) r (now (signers .entry)) (now (signers .exit)) ⌝ }
-{
-    let mut words = [0u16; MANY_WORDS];
-    check_sized(file, &mut words, signers)
-}
-
-// The same of a file of any size.
-fn check_most(file: &[u8], signers: &mut [u16]) -> RecordVerdict
+// The same with room for the words of any file.
+fn check_large(file: &[u8], signers: &mut [u16]) -> RecordVerdict
     requires { ⌜ Sized (now file) ⌝ }
     ensures { λ r. ⌜ r ≡ recordAnswer (now (file .entry)) (length (now (signers .entry))) ⌝ }
     ensures { λ r. ⌜ ListAfter (now (file .entry)) r (now (signers .entry)) (now (signers .exit)) ⌝ }
 {
+    if file.len() <= 2 * MANY_WORDS {
+        let mut words = [0u16; MANY_WORDS];
+        return check_sized(file, &mut words, signers);
+    }
     let mut words = [0u16; MOST_WORDS];
     check_sized(file, &mut words, signers)
 }
@@ -121,10 +114,7 @@ fn check_in(file: &[u8], words: &mut [u16], signers: &mut [u16]) -> RecordVerdic
         let mut more = [0u16; FEW_WORDS];
         return check_in(file, &mut more, signers);
     }
-    if file.len() <= 2 * MANY_WORDS {
-        return check_many(file, signers);
-    }
-    check_most(file, signers)
+    check_large(file, signers)
 }
 
 // The answer for a file of any bytes and length. On a grant the signers stand in the lent list from its start, in some

@@ -9,8 +9,7 @@ use borrow.Fn.PlainCycle.{Measures, is, falls, and}
 use Rattle.record_check.proofs.check.check_in.Reads as check-in
 use Rattle.record_check.proofs.check.check_in.Kinds as check-in-kinds
 use Rattle.record_check.proofs.check.+check_in.Lts-check_in as check-in-lts
-use Rattle.record_check.proofs.check.check_many.Reads as check-many
-use Rattle.record_check.proofs.check.check_most.Reads as check-most
+use Rattle.record_check.proofs.check.check_large.Reads as check-large
 use Rattle.record_check.proofs.check.check_sized.Reads as check-sized
 use Rattle.record_check.proofs.check.+check_in.{statement}
 use Rattle.record_check.proofs.check.+check_in.Tie.{close}
@@ -32,10 +31,8 @@ claims t = (
   check-sized.Learnt,
   check-in-below t,
   check-in.Post,
-  check-many.Asked,
-  check-many.Learnt,
-  check-most.Asked,
-  check-most.Learnt,
+  check-large.Asked,
+  check-large.Learnt,
 )
 
 check-in-requires : (t : ℕ) → check-in-lts.Need-check-in-requires (claims t) (check-in-at t) check-in.Post
@@ -55,10 +52,6 @@ pub +check-in-spec : {M : Type 1} → statement M
     (λ c. search needs)
     (λ c. search needs)
     (check-in-requires t)
-    (λ c. search needs)
-    (λ c. search needs)
-    (λ c. search needs)
-    (λ c κs. search needs)
     (λ c. search needs)
     (λ c. search needs)
     (λ c κs. search needs)
