@@ -41,10 +41,11 @@ unfolding heldAll
 half-all s held [] = refl
 half-all s held (n ∷ ns) = half-all (heldOne s held n) (countOne s held n) ns ∙ half-hold s held n
 
--- Slots that are all 0 show nothing.
+-- With nothing held no place is taken.
 pub live-none : (s : List ℕ) → Live s 0
 live-none s = record { places = omega arith }
 
+-- Slots that are all 0 show nothing.
 zeros : (k i : ℕ) → _≡_ {A = ℕ} (getD (replicate k 0) i 0) 0
 zeros zero i = refl
 zeros (suc k) zero = refl

@@ -33,7 +33,8 @@ release-next s from (suc i) l = rw (le-ltb i from (omega arith), sub-one (suc i)
 
 -- The same, by whether the number at the last place has a mark; h is how many marks there are.
 module _ (s : List ℕ) (from i : ℕ) {h : ℕ} (halves : half s ≡ h) (l : from < i) where
-  pub release-marked : getD s (h + (i - 1)) 0 < h → releasedTo s from i ≡ releasedTo (set s (getD s (h + (i - 1)) 0) 0) from (i - 1)
+  pub release-marked : getD s (h + (i - 1)) 0 < h
+      → releasedTo s from i ≡ releasedTo (set s (getD s (h + (i - 1)) 0) 0) from (i - 1)
   release-marked marked = rw (halves, lt-ltb _ _ marked) at (release-next s from i l)
 
   pub release-unmarked : h ≤ getD s (h + (i - 1)) 0 → releasedTo s from i ≡ releasedTo s from (i - 1)

@@ -52,7 +52,8 @@ word-set s i x j l = pick-cases (λ (y : ℕ). getD (set s i x) j 0 ≡ y) (eqb 
 same-set : {n : ℕ} {s t : List ℕ} (i x : ℕ) → i < length s → SameUpTo n s t → SameUpTo n (set s i x) (set t i x)
 same-set {n} {s} {t} i x l a = record {
   same-length = length-set t i x ∙ a .same-length ∙ sym (length-set s i x);
-  same-words = λ j m. word-set t i x j (omega (arith, a .same-length)) ∙ ap (pick (eqb i j) x) (a .same-words j m) ∙ sym (word-set s i x j l);
+  same-words = λ j m. word-set t i x j (omega (arith, a .same-length)) ∙ ap (pick (eqb i j) x) (a .same-words j m) ∙
+      sym (word-set s i x j l);
 }
 
 -- ---- how many are marked
@@ -62,7 +63,8 @@ marked-most : (s : List ℕ) (n : ℕ) → marked s n ≤ n
 unfolding marked
 marked-most s zero = omega arith
 marked-most s (suc n) =
-    pick-cases (λ (k : ℕ). marked s n + k ≤ suc n) (eqb (getD s n 0) 0) (λ e. omega (arith, marked-most s n)) (λ e. omega (arith, marked-most s n))
+    pick-cases (λ (k : ℕ). marked s n + k ≤ suc n) (eqb (getD s n 0) 0) (λ e. omega (arith, marked-most s n))
+    (λ e. omega (arith, marked-most s n))
 
 -- and fewer where one isn't marked
 marked-fewer : (s : List ℕ) (n i : ℕ) → i < n → getD s i 0 ≡ 0 → marked s n < n
@@ -105,10 +107,11 @@ live-room {s} {held} n live l e = omega (arith, live .places, marked-fewer s (ha
 pub live-most : {s : List ℕ} {held : ℕ} → Live s held → held ≤ half s
 live-most {s} {held} live = omega (arith, live .places, marked-most s (half s))
 
--- A premise proved leaves the room that there was.
+-- What isn't touched is kept.
 pub kept-nothing : {s : List ℕ} {held : ℕ} → Kept held s s
 kept-nothing {s} {held} = record { same = same-refl (half s + held) s }
 
+-- A premise proved leaves the room that there was.
 pub live-kept : {s t : List ℕ} {held : ℕ} → Live s held → Kept held s t → Live t held
 live-kept {s} {t} {held} live kept =
     let as-many = marked-same s t (half s) (λ i l. kept .same .same-words i (omega arith)) in
@@ -126,7 +129,12 @@ is-new s held n e =
 -- What isn't new, and has a mark, is marked.
 not-new : {s : List ℕ} {held : ℕ} (n : ℕ) → Live s held → isNew s held n ≡ false → n < half s → ¬ (getD s n 0 ≡ 0)
 not-new {s} {held} n live e l none =
-    false≢true (sym e ∙ rw (lt-ltb n (half s) l, lt-ltb held (half s) (live-room n live l none), eq-eqb (getD s n 0) 0 none))
+    false≢true (sym e ∙ rw (
+      lt-ltb n (half s) l,
+      lt-ltb held (half s) (live-room n live l none),
+      eq-eqb (getD s n 0) 0
+          none,
+    ))
 
 module _ (s : List ℕ) (held n : ℕ) where
   -- the slots once n has taken the next place
@@ -144,7 +152,8 @@ module _ (s : List ℕ) (held n : ℕ) where
 
     last-taken : getD taken (half s + held) 0 ≡ n
     last-taken =
-        word-set (set s n 1) (half s + held) n (half s + held) (omega (arith, length-set s n 1)) ∙ rw (eq-eqb (half s + held) (half s + held) refl)
+        word-set (set s n 1) (half s + held) n (half s + held) (omega (arith, length-set s n 1)) ∙ rw
+        (eq-eqb (half s + held) (half s + held) refl)
 
     -- The mark taken away again, all is as it was but the place.
     untaken : getD s n 0 ≡ 0 → SameUpTo (half s + held) s (set taken n 0)
@@ -159,7 +168,8 @@ module _ (s : List ℕ) (held n : ℕ) where
 
 -- n is held, and there is one hypothesis more, or nothing changes.
 held-cases : (P : List ℕ → ℕ → Type 0) (s : List ℕ) (held n : ℕ)
-    → (n < half s → held < half s → getD s n 0 ≡ 0 → P (taken s held n) (held + 1)) → (isNew s held n ≡ false → P s held)
+    → (n < half s → held < half s → getD s n 0 ≡ 0 → P (taken s held n) (held + 1))
+    → (isNew s held n ≡ false → P s held)
     → P (heldOne s held n) (countOne s held n)
 held-cases P s held n new old = decide (isNew s held n)
     (λ e. let (l, r, none) = is-new s held n e in rw e (new l r none))
@@ -198,7 +208,8 @@ shows-hold {s} {held} n i live m = held-cases (λ t k. isHeld t i ≡ pick (eqb 
 
 -- As many slots as before are left.
 length-unmarked : (s : List ℕ) (n : ℕ) → length (unmarked s n) ≡ length s
-length-unmarked s n = pick-cases (λ (t : List ℕ). length t ≡ length s) (ltb n (half s)) (λ e. length-set s n 0) (λ e. refl)
+length-unmarked s n = pick-cases (λ (t : List ℕ). length t ≡ length s) (ltb n (half s)) (λ e. length-set s n 0)
+    (λ e. refl)
 
 length-released : (from to : ℕ) (s : List ℕ) → length (releasedTo s from to) ≡ length s
 unfolding releasedTo
@@ -207,7 +218,8 @@ length-released from (suc to) s = pick-cases (λ (t : List ℕ). length t ≡ le
     (λ e. let n = getD s (half s + to) 0 in length-released from to (unmarked s n) ∙ length-unmarked s n)
 
 pub undoes-length : {from held : ℕ} {before s : List ℕ} → Undoes from before held s → length s ≡ length before
-undoes-length {from} {held} {before} {s} u = sym (length-released from (min held (half s)) s) ∙ u .leaves .same .same-length
+undoes-length {from} {held} {before} {s} u = sym (length-released from (min held (half s)) s) ∙ u .leaves .same
+    .same-length
 
 same-unmarked : {m : ℕ} {s t : List ℕ} (n : ℕ) → SameUpTo m s t → SameUpTo m (unmarked s n) (unmarked t n)
 same-unmarked {m} {s} {t} n a = rw (same-half a) (decide (ltb n (half s))
@@ -226,7 +238,8 @@ released-same from (suc to) {s} {t} l a = decide (ltb to from)
     let is : getD t (half t + to) 0 ≡ n = rw (same-half a) (a .same-words (half s + to) (omega arith)) in
     let less = same-unmarked n (same-less {m = half s + to} (omega arith) a) in
     let h = ap (λ (k : ℕ). k / 2) (length-unmarked s n) in
-    rw (e, is) (subst (λ (k : ℕ). SameUpTo (k + from) (releasedTo (unmarked s n) from to) (releasedTo (unmarked t n) from to)) h
+    rw (e, is) (subst (λ (k : ℕ). SameUpTo (k + from) (releasedTo (unmarked s n) from to)
+    (releasedTo (unmarked t n) from to)) h
     (released-same from to (omega (arith, ltb-false to from e)) (rw h less))))
 
 -- Up to a place within the half, all of them are taken back.
@@ -236,16 +249,24 @@ released-within s from to l = ap (releasedTo s from) (omega arith)
 -- Nothing has been added: nothing is taken back.
 pub undoes-nothing : {s : List ℕ} {held : ℕ} → held ≤ half s → Undoes held s held s
 undoes-nothing {s} {held} l =
-    record { leaves = record { same = rw (released-within s held held l, release-end s held held (omega arith)) (same-refl (half s + held) s) } }
+    record {
+      leaves = record {
+        same = rw (released-within s held held l, release-end s held held (omega arith))
+            (same-refl (half s + held) s);
+      };
+    }
 
 -- Slots that are the same as far as the list goes undo the same.
-pub undoes-kept : {from held : ℕ} {before s t : List ℕ} → from ≤ held → held ≤ half s → Undoes from before held s → Kept held s t
+pub undoes-kept : {from held : ℕ} {before s t : List ℕ} → from ≤ held → held ≤ half s → Undoes from before held s
+    → Kept held s t
     → Undoes from before held t
 undoes-kept {from} {held} {before} {s} {t} l most u kept =
     let within : held ≤ half t = omega (arith, same-half (kept .same)) in
-    let back : SameUpTo (half before + from) before (releasedTo s from held) = rw (released-within s from held most) at (u .leaves .same) in
+    let back : SameUpTo (half before + from) before (releasedTo s from held) = rw (released-within s from held most) at
+    (u .leaves .same) in
     let h : half s ≡ half before = ap (λ (k : ℕ). k / 2) (undoes-length u) in
-    let more : SameUpTo (half before + from) (releasedTo s from held) (releasedTo t from held) = rw h at (released-same from held l (kept .same)) in
+    let more : SameUpTo (half before + from) (releasedTo s from held) (releasedTo t from held) = rw h at
+    (released-same from held l (kept .same)) in
     record { leaves = record { same = rw (released-within t from held within) (same-trans back more) } }
 
 -- What was held last is taken back first.

@@ -2,3 +2,4 @@
 -- `steps`.
 pub mod Slots
 pub mod Trail
+pub mod Samples

@@ -52,7 +52,8 @@ unmarked slots n = pick (ltb n (half slots)) (set slots n 0) slots
 -- the hypotheses at the places from the first to before the second taken back, the last first
 unfoldable pub releasedTo : List ℕ → ℕ → ℕ → List ℕ
 releasedTo slots from zero = slots
-releasedTo slots from (suc to) = pick (ltb to from) slots (releasedTo (unmarked slots (getD slots (half slots + to) 0)) from to)
+releasedTo slots from (suc to) = pick (ltb to from) slots (releasedTo (unmarked slots (getD slots (half slots + to) 0))
+    from to)
 
 abbrev pub released : List ℕ → ℕ → ℕ → List ℕ
 released slots from to = releasedTo slots from (min to (half slots))

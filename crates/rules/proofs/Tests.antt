@@ -24,7 +24,7 @@ use Rattle.steps.specs.Figure1 as Figure1
 use Rattle.steps.specs.Figure1.{same}
 use Rattle.hypotheses.specs.Slots.{isHeld, shown}
 use Rattle.hypotheses.proofs.Shown.{shows-shown}
-use Rattle.rules.specs.Tested.{tested}
+use Rattle.rules.specs.Tested.{tested, TestedIsApplied}
 
 -- A number has an entry where both arrays have a word.
 pub has-entry : (hs ss : List ℕ) (n : ℕ) → both (ltb n (length hs)) (ltb n (length ss)) ≡ ltb n (length (entries hs ss))
@@ -58,12 +58,10 @@ here slots g d = record { hypotheses = shown slots; goal = g; depth = d }
 abbrev pub bySlots : List Entry → List ℕ → Goal → ℕ → ℕ → Opened
 bySlots es slots g code n = tested (getD (rules same es) code unknown) (both (ltb n (length es)) (isHeld slots n)) n g
 
--- Where the hypotheses answer 12, it is what a step applies.
-is-applied : (es : List Entry) (rule : Rule) (hs : List ℕ) (n : ℕ) (g : Goal)
-    → tested rule (both (ltb n (length es)) (holds hs n)) n g ≡ applied same es rule hs n g
-is-applied es (names rule) hs n g = refl
-is-applied es (plain rule) hs n g = refl
-is-applied es unknown hs n g = refl
+pub tested-is-applied : TestedIsApplied
+tested-is-applied es (names rule) hs n g = refl
+tested-is-applied es (plain rule) hs n g = refl
+tested-is-applied es unknown hs n g = refl
 
 module _ (es : List Entry) (slots : List ℕ) (g : Goal) (d w : ℕ) where
   -- At a depth above 512 a step is refused 10,
@@ -77,4 +75,4 @@ module _ (es : List Entry) (slots : List ℕ) (g : Goal) (d w : ℕ) where
   unfolding step opens
   step-is l k m =
       rw (le-leb d mostDepth l, k, m, shows-shown slots (lower w))
-      (is-applied es (getD (rules same es) (upper w) unknown) (shown slots) (lower w) g)
+      (tested-is-applied es (getD (rules same es) (upper w) unknown) (shown slots) (lower w) g)

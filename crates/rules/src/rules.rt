@@ -1,6 +1,6 @@
-// 01's table of rules, a function a row: what the rule needs of the goal and of the named formula, and what it leaves to
-// prove. Above each stands its row: code, name, goal below, named hypothesis, premises in order. A rule that takes any
-// goal isn't told which.
+// 01's table of rules, a function a row: what the rule needs of the goal and of the named formula, and what it leaves
+// to prove. Above each stands its row: code, name, goal below, named hypothesis, premises in order. A rule that takes
+// any goal isn't told which.
 ghost use mathlib.Core.Path.{_≡_};
 ghost use mathlib.Core.List.{[]};
 ghost use Rattle.table.specs.Tests.{entries};

@@ -1,9 +1,9 @@
 // Tests 10 to 14 for one step, in this order.
 //
-// The twelve rules stand in three functions, and this is deliberate. The compiler takes a function that is called at one
-// place into its caller, and leaves one that is called at two outside. The walk has one place for truths and one for
-// affirmations, so each gets a function of its own: it is worth 40 % of the walk's time. `apply` is for callers that
-// answer 12 in their own way.
+// The choice among the twelve rules is written three times, and this is deliberate. The compiler takes a function that
+// is called at one place into its caller, and leaves one that is called at two outside. The walk has one place for
+// truths and one for affirmations, so each has a function of its own: with one for both, the walk of a long proof takes
+// half as long again. `apply` is for callers that answer 12 in their own way.
 ghost use mathlib.Core.Path.{_≡_};
 ghost use lib.ListN.{length, getD};
 ghost use lib.Dec.{ltb};
@@ -40,8 +40,9 @@ fn is_hypothesis(heads: &[u16], seconds: &[u16], slots: &[u16], n: u16) -> bool
     is_entry(heads, seconds, n) && is_held(slots, n)
 }
 
-// The rule of a code, in 01's order, where 12 is answered. "11. The code is 12 or more, or a rule that names nothing has
-// a part other than 0." What a rule answers by 13 or 14 counts only where 11 and 12 have passed.
+// The rule of a code, in 01's order, where 12 is answered: its caller says whether n is held, and is to say no of a
+// number of F or more (`TestedIsApplied`). "11. The code is 12 or more, or a rule that names nothing has a part other
+// than 0." What a rule answers by 13 or 14 counts only where 11 and 12 have passed.
 pub fn apply(heads: &[u16], seconds: &[u16], held: bool, code: u16, n: u16, goal: Goal) -> Premises
     ensures { λ r. ⌜ opened goal r ≡ tested (getD (rules same (entries (now (heads .entry)) (now (seconds .entry)))) code unknown) held n goal ⌝ }
 {

@@ -10,9 +10,8 @@ use lib.ListN.{length, getD}
 use lib.Dec.{eqb, ltb, leb}
 use borrow.Author.Tests.{ltb-true}
 use Rattle.basics.specs.Choice.{pick, both}
-use Rattle.basics.specs.Limits.{mostFormulas}
 use Rattle.basics.specs.Membership.{holds}
-use Rattle.basics.specs.Word.{upper, lower}
+use Rattle.basics.specs.Word.{radix, upper, lower}
 use Rattle.basics.proofs.Membership.{holds-member, holds-append}
 use Rattle.basics.proofs.Choice.{pick-cases}
 use Rattle.table.specs.declared.entry.Formula.{Formula}
@@ -41,7 +40,7 @@ use Rattle.steps.proofs.Parts.{refusedAt}
 pub record AsNamed (es : List Entry) (o o′ : Obligation) : Type 0 where
   pub same-goal : o .goal ≡ o′ .goal
   pub same-depth : o .depth ≡ o′ .depth
-  pub same-named : (n : ℕ) → n < length es → n < mostFormulas → holds (o .hypotheses) n ≡ holds (o′ .hypotheses) n
+  pub same-named : (n : ℕ) → n < length es → n < radix → holds (o .hypotheses) n ≡ holds (o′ .hypotheses) n
 
 -- Two tests that are true together are one.
 same-test : (a b : Bool) → a ≡ true ↔ b ≡ true → a ≡ b
@@ -60,7 +59,8 @@ alike-named es {o} {o′} a = record {
   same-goal = a .same-goal;
   same-depth = a .same-depth;
   same-named = λ n l m. same-test (holds (o .hypotheses) n) (holds (o′ .hypotheses) n)
-      (Iff·trans (holds-member (o .hypotheses) n) (Iff·trans (a .same-set n) (Iff·symm (holds-member (o′ .hypotheses) n))));
+      (Iff·trans (holds-member (o .hypotheses) n) (Iff·trans (a .same-set n)
+      (Iff·symm (holds-member (o′ .hypotheses) n))));
 }
 
 module _ (speaks : ℕ → ℕ → Bool) (es : List Entry) where
@@ -68,11 +68,13 @@ module _ (speaks : ℕ → ℕ → Bool) (es : List Entry) where
   applied-alike : (rule : Rule) (hs hs′ : List ℕ) (n : ℕ) (g : Goal) → (n < length es → holds hs n ≡ holds hs′ n)
       → applied speaks es rule hs n g ≡ applied speaks es rule hs′ n g
   applied-alike (names rule) hs hs′ n g e =
-      ap (λ t. pick t (rule n g) (Opening.Refused 12)) (both-same (ltb n (length es)) (λ t. e (ltb-true n (length es) t)))
+      ap (λ t. pick t (rule n g) (Opening.Refused 12)) (both-same (ltb n (length es))
+      (λ t. e (ltb-true n (length es) t)))
   applied-alike (plain rule) hs hs′ n g e = refl
   applied-alike unknown hs hs′ n g e = refl
 
-  step-alike : (limit w : ℕ) {o o′ : Obligation} → AsNamed es o o′ → step speaks es limit w o ≡ step speaks es limit w o′
+  step-alike : (limit w : ℕ) {o o′ : Obligation} → AsNamed es o o′
+      → step speaks es limit w o ≡ step speaks es limit w o′
   unfolding step opens
   step-alike limit w {o} {o′} a =
       let rule = getD (rules speaks es) (upper w) unknown in

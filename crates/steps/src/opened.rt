@@ -1,4 +1,4 @@
-// What one step leaves to prove.
+// What one step leaves to prove, in the machine's words: for definitions. The code has `Premises` of `rules`.
 use crate::goal::Goal;
 use table::entry::Formula;
 

@@ -66,7 +66,8 @@ module _ {speaks : ℕ → ℕ → Bool} {es : List Entry} {hs : List ℕ} where
   turns (says-left m e s) = tt
 
 -- So it is with every step.
-pub step-turns : (speaks : ℕ → ℕ → Bool) (es : List Entry) (limit w : ℕ) (o : Obligation) → OfPremises (Turns (o .goal)) (step speaks es limit w o)
+pub step-turns : (speaks : ℕ → ℕ → Bool) (es : List Entry) (limit w : ℕ) (o : Obligation)
+    → OfPremises (Turns (o .goal)) (step speaks es limit w o)
 step-turns speaks es limit w o =
     of-premises _ _ (step speaks es limit w o) (λ ps takes. turns (takes .applies)) (step-takes speaks limit es w o)
 

@@ -1,6 +1,6 @@
 -- Laws of the walk: the machine's run from entry is the run from here, and what was held since can be taken back. In
--- order: what the slots show; what is held since; the run from here; what each shape of premises leads to. Assumes
--- nothing.
+-- order: what is held since; what the slots show; the run from here; premises; the loop goes on; a call for a premise;
+-- depth; affirmations; the end. Assumes nothing.
 use Prim.Native.Nat.{ℕ, suc, _+_, _<_, _≤_}
 use native.Mathlib.Omega.{arith}
 use native.Mathlib.Numerals.{add-one}
@@ -80,7 +80,8 @@ module _ {es : List Entry} {from : ℕ} {before slots : List ℕ} {held : ℕ} (
 
 -- A premise that held one formula is proved, and the formula taken back: all is as it was.
 pub held-back : {es : List Entry} {slots one during after : List ℕ} {held count : ℕ} (n : ℕ) → Ready es slots held
-    → count ≡ countOne slots held n → one ≡ heldOne slots held n → Kept count one during → after ≡ released during held count
+    → count ≡ countOne slots held n → one ≡ heldOne slots held n → Kept count one during
+    → after ≡ released during held count
     → Kept held slots after
 held-back n ready counts holds kept back =
     rw (back, counts) (since-kept (since-hold (since-nothing ready) n) (rw (counts, holds) at kept) .undoes .leaves)
@@ -88,7 +89,8 @@ held-back n ready counts holds kept back =
 -- ---- what the slots show
 
 -- A premise proved, the slots show what they showed.
-pub shown-kept : {slots after : List ℕ} {held : ℕ} (i : ℕ) → i < half slots → Kept held slots after → holds (shown after) i ≡ holds (shown slots) i
+pub shown-kept : {slots after : List ℕ} {held : ℕ} (i : ℕ) → i < half slots → Kept held slots after
+    → holds (shown after) i ≡ holds (shown slots) i
 shown-kept {slots} {after} {held} i l kept =
     let mark = kept .same .same-words i (omega arith) in
     sym (shows-shown after i) ∙ rw (same-half (kept .same), mark) (shows-shown slots i)
@@ -102,12 +104,14 @@ pub record On (es : List Entry) (steps before : List ℕ) (w₀ : Walk) (slots :
   pub forward : w₀ .next ≤ w .next
 
 -- At entry: the walk of the loop is the walk that was given.
-pub on-entry : {es : List Entry} {steps slots : List ℕ} {w₀ w : Walk} → w ≡ w₀ → Ready es slots (w₀ .held) → On es steps slots w₀ slots w
+pub on-entry : {es : List Entry} {steps slots : List ℕ} {w₀ w : Walk} → w ≡ w₀ → Ready es slots (w₀ .held)
+    → On es steps slots w₀ slots w
 on-entry {es} {steps} {slots} {w₀} {w} e ready =
     rw e (record { run-here = refl; since = since-nothing ready; forward = omega arith })
 
 -- The slots are as many as at entry.
-pub on-length : {es : List Entry} {steps before slots : List ℕ} {w₀ w : Walk} → On es steps before w₀ slots w → length slots ≡ length before
+pub on-length : {es : List Entry} {steps before slots : List ℕ} {w₀ w : Walk} → On es steps before w₀ slots w
+    → length slots ≡ length before
 on-length on = undoes-length (on .since .undoes)
 
 -- The walk w is at a word, where the step leaves the premises x.
@@ -117,34 +121,40 @@ pub record Here (es : List Entry) (steps slots : List ℕ) (w : Walk) (x : Premi
 
 module _ {es : List Entry} {steps before slots : List ℕ} {w₀ w : Walk} (on : On es steps before w₀ slots w) where
   -- The words end.
-  pub at-end : length steps ≤ w .next → {r : Walked} → r ≡ Refused 9 (w .next) → verdictOf r ≡ runFrom es steps before w₀
+  pub at-end : length steps ≤ w .next → {r : Walked} → r ≡ Refused 9 (w .next)
+      → verdictOf r ≡ runFrom es steps before w₀
   at-end l e = rw (e, on .run-here) (sym (walk-ends same mostDepth es steps (w .next) (obligationOf w slots) [] l))
 
   module _ {x : Premises} (here : Here es steps slots w x) where
     -- the machine's answer at this word
     answers : runFrom es steps before w₀
-        ≡ after (opened (w .goal) x) (refusedAt (w .next)) (λ ps. walkFrom same mostDepth es steps (suc (w .next)) (map (under (obligationOf w slots)) ps ++ []))
-    answers = on .run-here ∙ rw (here .opens) (walk-steps same mostDepth es steps (w .next) (obligationOf w slots) [] (here .inside))
+        ≡ after (opened (w .goal) x) (refusedAt (w .next)) (λ ps. walkFrom same mostDepth es steps (suc (w .next))
+        (map (under (obligationOf w slots)) ps ++ []))
+    answers = on .run-here ∙ rw (here .opens) (walk-steps same mostDepth es steps (w .next) (obligationOf w slots) []
+        (here .inside))
 
     -- what the machine answers for a premise from word n on
     abbrev premiseFrom : ℕ → Premise → WalkVerdict
     premiseFrom n p = walkFrom same mostDepth es steps n (under (obligationOf w slots) p ∷ [])
 
-    pub refused : {number : ℕ} → opened (w .goal) x ≡ Opening.Refused number → {r : Walked} → r ≡ Refused number (w .next)
+    pub refused : {number : ℕ} → opened (w .goal) x ≡ Opening.Refused number → {r : Walked}
+        → r ≡ Refused number (w .next)
         → verdictOf r ≡ runFrom es steps before w₀
     refused e is = rw (is, answers, e)
 
     pub closed : opened (w .goal) x ≡ Opening.Closed → Verdicts.Closed (w .next + 1) ≡ runFrom es steps before w₀
     closed e = rw (answers, e, walk-done same mostDepth es) (ap Verdicts.Closed (add-one (w .next)))
 
-    one : {p : Premise} → opened (w .goal) x ≡ Opening.One p → runFrom es steps before w₀ ≡ premiseFrom (w .next + 1) p
+    pub one : {p : Premise} → opened (w .goal) x ≡ Opening.One p
+        → runFrom es steps before w₀ ≡ premiseFrom (w .next + 1) p
     one {p} e = rw (answers, e) (ap (λ n. premiseFrom n p) (sym (add-one (w .next))))
 
     two : {p q : Premise} → opened (w .goal) x ≡ Opening.Two p q
         → runFrom es steps before w₀ ≡ andThen (premiseFrom (w .next + 1) p) (λ n. premiseFrom n q)
     two {p} {q} e =
         rw (answers, e, add-one (w .next))
-        (one-after-another same mostDepth es steps (suc (w .next)) (under (obligationOf w slots) p ∷ []) (under (obligationOf w slots) q ∷ []))
+        (one-after-another same mostDepth es steps (suc (w .next)) (under (obligationOf w slots) p ∷ [])
+        (under (obligationOf w slots) q ∷ []))
 
     -- ---- premises
 
@@ -161,29 +171,45 @@ module _ {es : List Entry} {steps before slots : List ℕ} {w₀ w : Walk} (on :
     -- one that adds nothing, one formula, or two
     alone-is : (g : Goal) (n : ℕ) {slots′ : List ℕ} → Kept (w .held) slots slots′
         → premiseFrom n (alone g) ≡ runFrom es steps slots′ (onward w g n (w .held))
-    alone-is g n {slots′} kept = premise-is (alone g) n (w .held) slots′ (λ i l. rw append-nil (sym (shown-kept i l kept)))
+    alone-is g n {slots′} kept = premise-is (alone g) n (w .held) slots′
+        (λ i l. rw append-nil (sym (shown-kept i l kept)))
 
     with-is : (g : Goal) (a : Formula) (n : ℕ) {slots′ : List ℕ} → Kept (w .held) slots slots′
-        → premiseFrom n (adding g a) ≡ runFrom es steps (heldOne slots′ (w .held) (a .0)) (onward w g n (countOne slots′ (w .held) (a .0)))
+        → premiseFrom n (adding g a) ≡ runFrom es steps (heldOne slots′ (w .held) (a .0))
+        (onward w g n (countOne slots′ (w .held) (a .0)))
     with-is g a n {slots′} kept =
         premise-is (adding g a) n (countOne slots′ (w .held) (a .0)) (heldOne slots′ (w .held) (a .0)) (λ i l.
-        rw (holds-append (shown slots) (a .0 ∷ []) i, ← shown-kept i l kept, ← holds-append (shown slots′) (a .0 ∷ []) i)
+        rw (
+          holds-append (shown slots) (a .0 ∷ []) i,
+          ← shown-kept i l kept,
+          ← holds-append (shown slots′) (a .0 ∷ [])
+              i,
+        )
         (sym (shown-hold (a .0) i (live-kept (on .since .ready .live) kept) (omega (arith, same-half (kept .same))))))
 
-    both-is : (g : Goal) (a b : Formula) (n : ℕ) → let one = heldOne slots (w .held) (a .0) in let count = countOne slots (w .held) (a .0) in
-        premiseFrom n (addingBoth g a b) ≡ runFrom es steps (heldOne one count (b .0)) (onward w g n (countOne one count (b .0)))
+    both-is : (g : Goal) (a b : Formula) (n : ℕ)
+        → let one = heldOne slots (w .held) (a .0) in let count = countOne slots (w .held) (a .0) in
+        premiseFrom n (addingBoth g a b) ≡ runFrom es steps (heldOne one count (b .0))
+        (onward w g n (countOne one count (b .0)))
     both-is g a b n =
         let one = heldOne slots (w .held) (a .0) in
         let count = countOne slots (w .held) (a .0) in
         let live = on .since .ready .live in
         premise-is (addingBoth g a b) n (countOne one count (b .0)) (heldOne one count (b .0)) (λ i l.
         sym (shown-hold (b .0) i (live-hold (a .0) live) (omega (arith, half-hold slots (w .held) (a .0)))
-        ∙ rw (holds-append (shown one) (b .0 ∷ []) i, shown-hold (a .0) i live l, ← holds-append (shown slots ++ (a .0 ∷ [])) (b .0 ∷ []) i, append-snoc)))
+        ∙ rw (
+          holds-append (shown one) (b .0 ∷ []) i,
+          shown-hold (a .0) i live l,
+          ← holds-append
+              (shown slots ++ (a .0 ∷ [])) (b .0 ∷ []) i,
+          append-snoc,
+        )))
 
     -- ---- the loop goes on
 
     -- with a premise that adds nothing, from slots that a premise before it left,
-    pub goes-alone : (g : Goal) (n : ℕ) {slots′ : List ℕ} {v : Walk} → runFrom es steps before w₀ ≡ premiseFrom n (alone g) → w .next ≤ n
+    pub goes-alone : (g : Goal) (n : ℕ) {slots′ : List ℕ} {v : Walk}
+        → runFrom es steps before w₀ ≡ premiseFrom n (alone g) → w .next ≤ n
         → Kept (w .held) slots slots′ → v ≡ onward w g n (w .held) → On es steps before w₀ slots′ v
     goes-alone g n run later kept is = rw is (record {
       run-here = run ∙ alone-is g n kept;
@@ -214,10 +240,6 @@ module _ {es : List Entry} {steps before slots : List ℕ} {w₀ w : Walk} (on :
       forward = let f = on .forward in omega arith;
     })
 
-    -- the only premise
-    pub only : {p : Premise} → opened (w .goal) x ≡ Opening.One p → runFrom es steps before w₀ ≡ premiseFrom (w .next + 1) p
-    only e = one e
-
     -- ---- a call for a premise
 
     -- the walk of a premise that adds nothing, or one formula, answers as the machine
@@ -226,29 +248,35 @@ module _ {es : List Entry} {steps before slots : List ℕ} {w₀ w : Walk} (on :
     called-alone g is e = e ∙ rw is (sym (alone-is g (w .next + 1) kept-nothing))
 
     pub called-with : (g : Goal) (a : Formula) {slots′ : List ℕ} {count : ℕ} {v : Walk} {verdict : WalkVerdict}
-        → slots′ ≡ heldOne slots (w .held) (a .0) → v ≡ onward w g (w .next + 1) count → verdict ≡ runFrom es steps slots′ v
+        → slots′ ≡ heldOne slots (w .held) (a .0) → v ≡ onward w g (w .next + 1) count
+        → verdict ≡ runFrom es steps slots′ v
         → verdict ≡ premiseFrom (w .next + 1) (adding g a)
     called-with g a holds is e = e ∙ rw (is, holds) (sym (with-is g a (w .next + 1) kept-nothing))
 
     -- A premise is proved by a word or more.
-    pub premise-past : (p : Premise) {r : Walked} {v : Walk} → verdictOf r ≡ premiseFrom (w .next + 1) p → r ≡ Done v → w .next + 1 < v .next
+    pub premise-past : (p : Premise) {r : Walked} {v : Walk} → verdictOf r ≡ premiseFrom (w .next + 1) p → r ≡ Done v
+        → w .next + 1 < v .next
     premise-past p {r} {v} call is =
         let closed : premiseFrom (w .next + 1) p ≡ Verdicts.Closed (v .next) = sym call ∙ ap verdictOf is in
-        let (least, most) = uses-words same mostDepth es _ (w .next + 1) (v .next) (under (obligationOf w slots) p ∷ []) closed in
+        let (least, most) = uses-words same mostDepth es _ (w .next + 1) (v .next)
+        (under (obligationOf w slots) p ∷ []) closed in
         omega arith
 
     -- The only premise is refused, or proved.
     pub only-refused : {p : Premise} {r : Walked} {number place : ℕ} → opened (w .goal) x ≡ Opening.One p
-        → verdictOf r ≡ premiseFrom (w .next + 1) p → r ≡ Refused number place → Verdicts.Refused number place ≡ runFrom es steps before w₀
+        → verdictOf r ≡ premiseFrom (w .next + 1) p → r ≡ Refused number place
+        → Verdicts.Refused number place ≡ runFrom es steps before w₀
     only-refused e call is = sym (ap verdictOf is) ∙ call ∙ sym (one e)
 
     pub only-proved : {p : Premise} {r : Walked} {v : Walk} → opened (w .goal) x ≡ Opening.One p
-        → verdictOf r ≡ premiseFrom (w .next + 1) p → r ≡ Done v → Verdicts.Closed (v .next) ≡ runFrom es steps before w₀
+        → verdictOf r ≡ premiseFrom (w .next + 1) p → r ≡ Done v
+        → Verdicts.Closed (v .next) ≡ runFrom es steps before w₀
     only-proved e call is = sym (ap verdictOf is) ∙ call ∙ sym (one e)
 
     -- The first of two is refused, or proved, and then the second is due.
     pub first-refused : {p q : Premise} {r : Walked} {number place : ℕ} → opened (w .goal) x ≡ Opening.Two p q
-        → verdictOf r ≡ premiseFrom (w .next + 1) p → r ≡ Refused number place → Verdicts.Refused number place ≡ runFrom es steps before w₀
+        → verdictOf r ≡ premiseFrom (w .next + 1) p → r ≡ Refused number place
+        → Verdicts.Refused number place ≡ runFrom es steps before w₀
     first-refused e call is = sym (two e ∙ rw (← call, is))
 
     pub first-proved : {p q : Premise} {r : Walked} {v : Walk} → opened (w .goal) x ≡ Opening.Two p q
@@ -260,23 +288,29 @@ module _ {es : List Entry} {steps before slots : List ℕ} {w₀ w : Walk} (on :
     -- "10. The step's depth is above 512": where there is a premise, it is not.
     pub deep-one : {p : Premise} → opened (w .goal) x ≡ Opening.One p → w .depth ≤ mostDepth
     deep-one {p} e =
-        let takes : OfPremises (Takes same es mostDepth _ _) (Opening.One p) = rw (← here .opens, e) at (step-takes same mostDepth es (getD steps (w .next) 0) (obligationOf w slots)) in
+        let takes : OfPremises (Takes same es mostDepth _ _) (Opening.One p) = rw (← here .opens, e) at
+        (step-takes same mostDepth es (getD steps (w .next) 0) (obligationOf w slots)) in
         takes .fits
 
     pub deep-two : {p q : Premise} → opened (w .goal) x ≡ Opening.Two p q → w .depth ≤ mostDepth
     deep-two {p} {q} e =
-        let takes : OfPremises (Takes same es mostDepth _ _) (Opening.Two p q) = rw (← here .opens, e) at (step-takes same mostDepth es (getD steps (w .next) 0) (obligationOf w slots)) in
+        let takes : OfPremises (Takes same es mostDepth _ _) (Opening.Two p q) = rw (← here .opens, e) at
+        (step-takes same mostDepth es (getD steps (w .next) 0) (obligationOf w slots)) in
         takes .fits
 
     -- ---- affirmations
 
     -- What doesn't occur for an affirmation is absurd.
-    pub turns-here : {k : Principal} {f : Formula} → w .goal ≡ Affirms k f → {y : Opened} → opened (w .goal) x ≡ y → OfPremises (Turns (Affirms k f)) y
-    turns-here is e = rw (← e, here .opens, ← is) (step-turns same es mostDepth (getD steps (w .next) 0) (obligationOf w slots))
+    pub turns-here : {k : Principal} {f : Formula} → w .goal ≡ Affirms k f → {y : Opened} → opened (w .goal) x ≡ y
+        → OfPremises (Turns (Affirms k f)) y
+    turns-here is e = rw (← e, here .opens, ← is) (step-turns same es mostDepth (getD steps (w .next) 0)
+        (obligationOf w slots))
 
 -- The goal is proved: what was held since is taken back.
-pub done : (es : List Entry) (steps before : List ℕ) (w₀ : Walk) {slots after : List ℕ} {n held : ℕ} {g : Goal} {r : Walked}
+pub done : (es : List Entry) (steps before : List ℕ) (w₀ : Walk) {slots after : List ℕ} {n held : ℕ} {g : Goal}
+    {r : Walked}
     → Since es (w₀ .held) before slots held → Verdicts.Closed n ≡ runFrom es steps before w₀
-    → r ≡ Done (record { goal = g; next = n; depth = w₀ .depth; held = w₀ .held }) → after ≡ released slots (w₀ .held) held
+    → r ≡ Done (record { goal = g; next = n; depth = w₀ .depth; held = w₀ .held })
+    → after ≡ released slots (w₀ .held) held
     → (verdictOf r ≡ runFrom es steps before w₀) × Left w₀ before r after
 done es steps before w₀ since run is back = rw (is, back) (run, (refl, refl, since .undoes .leaves))

@@ -5,7 +5,8 @@ use mathlib.Core.Bool.{false}
 use mathlib.Core.Path.{_≡_}
 use mathlib.Core.List.{List, [], _∷_}
 use lib.ListN.{length}
-use Rattle.basics.specs.Limits.{mostDepth, mostFormulas}
+use Rattle.basics.specs.Limits.{mostDepth}
+use Rattle.basics.specs.Word.{radix}
 use Rattle.basics.specs.Membership.{holds}
 use Rattle.table.specs.declared.entry.Entry.{Entry}
 use Rattle.steps.specs.declared.goal.Goal.{Goal}
@@ -46,9 +47,9 @@ abbrev pub verdictOf : Walked → WalkVerdict
 verdictOf (Done v) = Verdicts.Closed (v .next)
 verdictOf (Refused number place) = Verdicts.Refused number place
 
--- The slots have a mark for each number that a step can name,
+-- The slots have a mark for each number that a step can name: the lower part of its word, below F,
 abbrev pub Marks : List Entry → List ℕ → Type 0
-Marks es slots = (n : ℕ) → n < length es → n < mostFormulas → n < half slots
+Marks es slots = (n : ℕ) → n < length es → n < radix → n < half slots
 
 -- and a place for each hypothesis.
 pub record Ready (es : List Entry) (slots : List ℕ) (held : ℕ) : Type 0 where
@@ -65,7 +66,7 @@ Left w slots (Refused number place) after = Unit
 -- The slots show the statements, as far as a step can name them, and are ready for a walk.
 pub record Holding (es : List Entry) (statements slots : List ℕ) (held : ℕ) : Type 0 where
   pub ready : Ready es slots held
-  pub shows : (n : ℕ) → n < length es → n < mostFormulas → holds (shown slots) n ≡ holds statements n
+  pub shows : (n : ℕ) → n < length es → n < radix → holds (shown slots) n ≡ holds statements n
 
 -- A proof that is closed leaves the hypotheses as they were held. After a refusal the slots are free.
 abbrev pub LeftHeld : List ℕ → ℕ → WalkVerdict → List ℕ → Type 0

@@ -45,7 +45,7 @@ fn check_goal(
 }
 
 // The same for each goal in order: "The exchange check hands the tail of the step words, from the last proof's end, to
-// the proof checker." (01) Places in a tail count from its start.
+// the proof checker." (01) Places in a tail count from its start. What is left in the slots is free.
 fn check_goals(
     heads: &[u16],
     seconds: &[u16],
@@ -81,7 +81,8 @@ fn check_goals(
     WalkVerdict::Closed(at)
 }
 
-// The same in slots that hold nothing yet and have a mark for each formula that a step can name.
+// The same in slots that hold nothing yet and have a mark for each formula that a step can name. What is left in the
+// slots is free: nobody reads them again.
 fn check_held(
     heads: &[u16],
     seconds: &[u16],
@@ -112,8 +113,8 @@ fn check_most(
     check_held(heads, seconds, statements, &mut slots, goals, steps)
 }
 
-// The same in these slots, which hold nothing yet, or in more where they are too few. (It calls itself so that no more
-// slots than are used stand in a frame: the compiler takes no large array into a function that calls itself.)
+// The same in these slots, which hold nothing yet, or in more where they are too few. It calls itself so that the
+// compiler doesn't take `check_most`, with its 8,192 slots, into it and into the frame of every check.
 fn check_within(
     heads: &[u16],
     seconds: &[u16],

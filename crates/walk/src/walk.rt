@@ -93,9 +93,12 @@ impl Walk {
             depth: self.depth,
             held: self.held,
         };
-        // One place each for the walk of a premise and what it comes to: else a frame would have them once for each arm.
+        // One place each for the walk of a premise and for what it comes to: else a frame has them once for each arm.
         let mut premise = walk;
-        let mut walked = Walked::Done(walk);
+        let mut walked = Walked::Refused {
+            number: 9,
+            place: self.next,
+        };
         loop {
             let next = walk.next;
             let held = walk.held;
@@ -205,9 +208,12 @@ impl Walk {
             depth: self.depth,
             held: self.held,
         };
-        // One place each for the walk of a premise and what it comes to: else a frame would have them once for each arm.
+        // One place each for the walk of a premise and for what it comes to: else a frame has them once for each arm.
         let mut premise = walk;
-        let mut walked = Walked::Done(walk);
+        let mut walked = Walked::Refused {
+            number: 9,
+            place: self.next,
+        };
         loop {
             let next = walk.next;
             let held = walk.held;

@@ -40,5 +40,6 @@ returns-2 c =
 pub hold-number-spec : {M : Type 1} → statement M
 hold-number-spec =
     tie.close
-    (tie.spec (λ c. search needs) (λ c. search needs) (λ c. search needs) (λ c. search needs) add-slots mul-slots-2 slice-write-slots-2
+    (tie.spec (λ c. search needs) (λ c. search needs) (λ c. search needs) (λ c. search needs) add-slots mul-slots-2
+    slice-write-slots-2
     add-result (λ c. search needs) returns returns-2)

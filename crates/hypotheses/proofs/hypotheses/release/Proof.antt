@@ -21,7 +21,8 @@ abbrev μ-loop : tie.MeasureT-loop
 loop-holds : tie.Need-loop-holds Inv-loop μ-loop
 loop-holds c =
     let a = c .before .args in
-    let first : c .if1 .i ≡ min (a .to) (half (a .slots .now)) = ⊎-elim (λ w. omega arith) (λ w. omega arith) (c .if1 .came) in
+    let first : c .if1 .i ≡ min (a .to) (half (a .slots .now)) = ⊎-elim (λ w. omega arith) (λ w. omega arith)
+    (c .if1 .came) in
     (omega arith, refl, rw first)
 
 add-n : tie.Need-add-n Inv-loop μ-loop
@@ -35,7 +36,8 @@ slice-read-n c = omega (arith, c .before .before .before .loop .inv .1)
 
 cast-n : tie.Need-cast-n Inv-loop μ-loop
 cast-n c =
-    let at = half (c .before .before .before .before .before .args .slots .now) + (c .before .before .before .loop .i - 1) in
+    let at = half (c .before .before .before .before .before .args .slots .now) +
+    (c .before .before .before .loop .i - 1) in
     omega (arith, c .slice-known .given at)
 
 slice-write-slots : tie.Need-slice-write-slots Inv-loop μ-loop
@@ -70,5 +72,6 @@ returns c =
 pub release-spec : {M : Type 1} → statement M
 release-spec =
     tie.close
-    (tie.spec Inv-loop μ-loop loop-holds (λ c. search needs) add-n mul-n slice-read-n cast-n (λ c. search needs) slice-write-slots
+    (tie.spec Inv-loop μ-loop loop-holds (λ c. search needs) add-n mul-n slice-read-n cast-n (λ c. search needs)
+    slice-write-slots
     (λ c. search needs) loop-again (λ c. search needs) loop-again-2 (λ c. search needs) returns)

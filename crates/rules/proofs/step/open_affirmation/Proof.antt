@@ -1,5 +1,5 @@
--- `rules::step::open_affirmation` meets its contract: the test of the depth picks, and then the rule of the word's code,
--- with 12 answered by the slots. Assumes nothing.
+-- `rules::step::open_affirmation` meets its contract: the test of the depth picks, and then the rule of the word's
+-- code, with 12 answered by the slots. Assumes nothing.
 use mathlib.Core.Path.{_≡_, _∙_}
 use borrow.Author.Tests.{eq-eqb, ne-eqb}
 use Rattle.table.specs.Tests.{entries}
@@ -24,7 +24,8 @@ opens c e = e ∙ step-is _ _ _ _ _ (c .before .before .if1 .left) (c .upper .en
 returns-2 : tie.Need-returns-2
 returns-2 c =
     let h = c .before .before in
-    opens (h .before .before) (rw (h .before .match .keys1, ← h .is-hypothesis .ensures, c .before .if2 .taken) (c .init .ensures))
+    opens (h .before .before) (rw (h .before .match .keys1, ← h .is-hypothesis .ensures, c .before .if2 .taken)
+    (c .init .ensures))
 
 returns-3 : tie.Need-returns-3
 returns-3 c =
@@ -50,7 +51,8 @@ returns-7 c = opens (c .before .before) (rw (c .before .match .keys3, ne-eqb _ _
 returns-8 : tie.Need-returns-8
 returns-8 c =
     let h = c .before .before in
-    opens (h .before .before) (rw (h .before .match .keys4, ← h .is-hypothesis2 .ensures, c .before .if5 .taken) (c .implies-left .ensures _))
+    opens (h .before .before) (rw (h .before .match .keys4, ← h .is-hypothesis2 .ensures, c .before .if5 .taken)
+    (c .implies-left .ensures _))
 
 returns-9 : tie.Need-returns-9
 returns-9 c =
@@ -60,7 +62,8 @@ returns-9 c =
 returns-10 : tie.Need-returns-10
 returns-10 c =
     let h = c .before .before in
-    opens (h .before .before) (rw (h .before .match .keys5, ← h .is-hypothesis3 .ensures, c .before .if6 .taken) (c .false-left .ensures _))
+    opens (h .before .before) (rw (h .before .match .keys5, ← h .is-hypothesis3 .ensures, c .before .if6 .taken)
+    (c .false-left .ensures _))
 
 returns-11 : tie.Need-returns-11
 returns-11 c =
@@ -78,7 +81,8 @@ returns-13 c = opens (c .before .before) (rw (c .before .match .keys6, ne-eqb _ 
 returns-14 : tie.Need-returns-14
 returns-14 c =
     let h = c .before .before in
-    opens (h .before .before) (rw (h .before .match .keys7, ← h .is-hypothesis4 .ensures, c .before .if8 .taken) (c .and-left .ensures _))
+    opens (h .before .before) (rw (h .before .match .keys7, ← h .is-hypothesis4 .ensures, c .before .if8 .taken)
+    (c .and-left .ensures _))
 
 returns-15 : tie.Need-returns-15
 returns-15 c =
@@ -104,7 +108,8 @@ returns-19 c = opens (c .before .before) (rw (c .before .match .keys9, ne-eqb _ 
 returns-20 : tie.Need-returns-20
 returns-20 c =
     let h = c .before .before in
-    opens (h .before .before) (rw (h .before .match .keys10, ← h .is-hypothesis5 .ensures, c .before .if11 .taken) (c .or-left .ensures _))
+    opens (h .before .before) (rw (h .before .match .keys10, ← h .is-hypothesis5 .ensures, c .before .if11 .taken)
+    (c .or-left .ensures _))
 
 returns-21 : tie.Need-returns-21
 returns-21 c =
@@ -122,7 +127,8 @@ returns-23 c = opens (c .before .before) (rw (c .before .match .keys11, ne-eqb _
 returns-24 : tie.Need-returns-24
 returns-24 c =
     let h = c .before .before in
-    opens (h .before .before) (rw (h .before .match .keys12, ← h .is-hypothesis6 .ensures, c .before .if13 .taken) (c .says-left .ensures))
+    opens (h .before .before) (rw (h .before .match .keys12, ← h .is-hypothesis6 .ensures, c .before .if13 .taken)
+    (c .says-left .ensures))
 
 returns-25 : tie.Need-returns-25
 returns-25 c =

@@ -36,13 +36,15 @@ check-within-claims t = (
   check-within.Post,
 )
 
-check-held-requires : (t : ℕ) → check-within-lts.Need-check-held-requires (check-within-claims t) (check-within-at t) check-within.Post
+check-held-requires : (t : ℕ)
+    → check-within-lts.Need-check-held-requires (check-within-claims t) (check-within-at t) check-within.Post
 check-held-requires t c κs =
     let start = c .before .before .before .before .before .before .before .before in
     let a = start .args in
     (start .pre .1, marks-table (a .heads .now) (a .seconds .now) (a .slots .now) (c .before .if1 .taken))
 
-check-within-requires : (t : ℕ) → check-within-lts.Need-check-within-requires (check-within-claims t) (check-within-at t) check-within.Post
+check-within-requires : (t : ℕ)
+    → check-within-lts.Need-check-within-requires (check-within-claims t) (check-within-at t) check-within.Post
 check-within-requires t c κs =
     let start = c .before .before .before .before .before .before .before .before .before in
     (omega (arith, c .before .if2 .left, c .before .before .if1 .left, start .pre .0), empty-zeros 1024)

@@ -15,7 +15,8 @@ returns c =
     let called = c .before .before .before .before .before in
     let start = called .before .before .before .before .before .before .before .before in
     let done = c .before .after .given .1 in (
-      sym (ap verdictOf done) ∙ called .truth .ensures .0 ∙ goal-run (start .args .steps .now) (start .args .goal) (start .pre) (called .before .before .goal-formula .ensures),
+      sym (ap verdictOf done) ∙ called .truth .ensures .0 ∙ goal-run (start .args .steps .now) (start .args .goal)
+          (start .pre) (called .before .before .goal-formula .ensures),
       (rw done at (called .truth .ensures .1)) .2,
     )
 
@@ -25,7 +26,8 @@ returns-2 c =
     let start = called .before .before .before .before .before .before .before .before in (
       sym (ap verdictOf (c .before .number .given .1))
           ∙ called .truth .ensures .0
-          ∙ goal-run (start .args .steps .now) (start .args .goal) (start .pre) (called .before .before .goal-formula .ensures),
+          ∙ goal-run (start .args .steps .now) (start .args .goal) (start .pre)
+          (called .before .before .goal-formula .ensures),
       tt,
     )
 

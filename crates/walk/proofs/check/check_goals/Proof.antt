@@ -1,5 +1,5 @@
--- `check_goals` meets its contract. The loop's invariant: the slots hold the statements, and the verdict on all goals is
--- that on the goals from position i on, from the word `at` on. Assumes nothing.
+-- `check_goals` meets its contract. The loop's invariant: the slots hold the statements, and the verdict on all goals
+-- is that on the goals from position i on, from the word `at` on. Assumes nothing.
 use Prim.Native.Nat.{_≤_, _-_}
 use native.Mathlib.Omega.{arith}
 use mathlib.Core.Path.{_≡_, refl, sym, _∙_}
@@ -89,7 +89,8 @@ returns-2 c =
     let l = c .before .loop in
     let a = c .before .before .before .before .before .before .before .before .args in
     let es = entries (a .heads .now) (a .seconds .now) in
-    sym (l .inv .3 ∙ goals-end es (a .statements .now) (a .goals .now) (a .steps .now) (l .at) (l .i) (c .loop-test .left))
+    sym (l .inv .3 ∙ goals-end es (a .statements .now) (a .goals .now) (a .steps .now) (l .at) (l .i)
+    (c .loop-test .left))
 
 pub check-goals-spec : {M : Type 1} → statement M
 check-goals-spec =

@@ -15,7 +15,7 @@ use Rattle.rules.specs.Premises.{opened}
 use denote.Ref.{now}
 use Rattle.steps.specs.Obligation.{alone, adding}
 use Rattle.hypotheses.proofs.Trail.{kept-nothing}
-use Rattle.walk.proofs.Walks.{On, Here, on-entry, on-length, at-end, refused, closed, only, deep-one, deep-two}
+use Rattle.walk.proofs.Walks.{On, Here, on-entry, on-length, at-end, refused, closed, one, deep-one, deep-two}
 use Rattle.walk.proofs.Walks.{goes-alone, goes-with, goes-both, called-alone, called-with, premise-past}
 use Rattle.walk.proofs.Walks.{only-refused, only-proved, first-refused, first-proved, turns-here}
 use Rattle.walk.proofs.Walks.{since-kept, since-hold, held-back, done}
@@ -102,17 +102,20 @@ truth-claims t = (
 
 abbrev affirmation-Inv-loop : affirmation-lts.InvT-loop
 affirmation-Inv-loop self heads seconds steps slots₀ lent-heads lent-seconds lent-steps k f walk₀ slots walk =
-    (length slots ≡ length slots₀) × (walk .goal ≡ Affirms k f) × On (entries heads seconds) steps slots₀ self slots walk
+    (length slots ≡ length slots₀) × (walk .goal ≡ Affirms k f) × On (entries heads seconds) steps slots₀ self slots
+    walk
 
 abbrev affirmation-μ-loop : affirmation-lts.MeasureT-loop
-affirmation-μ-loop self heads seconds steps slots₀ lent-heads lent-seconds lent-steps k f walk₀ slots walk = length steps - walk .next
+affirmation-μ-loop self heads seconds steps slots₀ lent-heads lent-seconds lent-steps k f walk₀ slots walk = length
+    steps - walk .next
 
 abbrev truth-Inv-loop : truth-lts.InvT-loop
 truth-Inv-loop self heads seconds steps slots₀ lent-heads lent-seconds lent-steps f₀ walk₀ slots f walk =
     (length slots ≡ length slots₀) × (walk .goal ≡ True f) × On (entries heads seconds) steps slots₀ self slots walk
 
 abbrev truth-μ-loop : truth-lts.MeasureT-loop
-truth-μ-loop self heads seconds steps slots₀ lent-heads lent-seconds lent-steps f₀ walk₀ slots f walk = length steps - walk .next
+truth-μ-loop self heads seconds steps slots₀ lent-heads lent-seconds lent-steps f₀ walk₀ slots f walk = length steps -
+    walk .next
 
 -- the walk at the word that was opened
 truth-here : (t : ℕ) (o : truth-lts.After-open-truth (truth-claims t) (truth-at t) truth.Post truth-Inv-loop
@@ -325,7 +328,7 @@ affirmation-loop-again t c =
     let at-start = o .before .before .before .before .before .before in
     let l = o .before .before .before .before .loop in
     let on = goes-with (l .inv .2) (affirmation-here t o) (Affirms (at-start .start .given .0 .0) (at-start .start
-    .given .0 .1 .0)) (at-a2 .a2 .given .0 .0) (l .walk .next + 1) (only (l .inv .2) (affirmation-here t o)
+    .given .0 .1 .0)) (at-a2 .a2 .given .0 .0) (l .walk .next + 1) (one (l .inv .2) (affirmation-here t o)
     (affirmation-is t o (at-a2 .a2 .given .1))) (omega arith) kept-nothing (at-hold .hold .ensures .0) (at-hold
     .hold .ensures .1) (c .onward2 .ensures) in
     (on-length on, rw (c .onward2 .ensures), on)
@@ -722,7 +725,7 @@ truth-loop-again-2 t c =
     let o = at-b .before .before in
     let l = o .before .before .before .before .loop in
     let on = goes-with (l .inv .2) (truth-here t o) (True (at-b .b .given .0 .0)) (at-b .b .given .0 .1 .0) (l .walk
-    .next + 1) (only (l .inv .2) (truth-here t o) (truth-is t o (at-b .b .given .1))) (omega arith) kept-nothing
+    .next + 1) (one (l .inv .2) (truth-here t o) (truth-is t o (at-b .b .given .1))) (omega arith) kept-nothing
     (at-hold .hold .ensures .0) (at-hold .hold .ensures .1) (c .onward2 .ensures) in
     (on-length on, rw (c .onward2 .ensures), on)
 
