@@ -697,7 +697,7 @@ truth-loop-again t c =
     let at-a = c .before .before in
     let o = at-a .before .before in
     let l = o .before .before .before .before .loop in
-    let on = goes-alone (l .inv .2) (truth-here t o) (True (at-a .a .given .0 .0)) (l .walk .next + 1) (only (l .inv
+    let on = goes-alone (l .inv .2) (truth-here t o) (True (at-a .a .given .0 .0)) (l .walk .next + 1) (one (l .inv
     .2) (truth-here t o) (truth-is t o (at-a .a .given .1))) (omega arith) kept-nothing (c .onward .ensures) in
     (on-length on, rw (c .onward .ensures), on)
 
@@ -752,7 +752,7 @@ truth-loop-again-3 t c =
     let at-a2 = at-hold2 .before .before .before in
     let o = at-a2 .before .before in
     let l = o .before .before .before .before .loop in
-    let on = goes-with (l .inv .2) (truth-here t o) (True (l .f)) (at-a2 .a2 .given .0 .0) (l .walk .next + 1) (only
+    let on = goes-with (l .inv .2) (truth-here t o) (True (l .f)) (at-a2 .a2 .given .0 .0) (l .walk .next + 1) (one
     (l .inv .2) (truth-here t o) (truth-is t o (at-a2 .a2 .given .1))) (omega arith) kept-nothing (at-hold2 .hold2
     .ensures .0) (at-hold2 .hold2 .ensures .1) (c .onward3 .ensures) in
     (on-length on, rw (c .onward3 .ensures), on)
