@@ -1,7 +1,6 @@
 //! The files that are measured, all built here, the same in every run: valid ones, so that each is
 //! walked to its end, and ones that are refused for one word.
 mod build;
-mod crowded;
 mod provable_table;
 mod prover;
 mod refused;

@@ -4,10 +4,12 @@
 //! - `table`: a table that holds each entry once.
 //! - `steps`: the step words of the rules.
 //! - `layout`: a file's words, and its bytes.
+//! - `crowded`: tables that crowd the index by which the proved checker makes test 5.
 //! - `random`: numbers that look random.
 //! - `samples`: samples of document 01, as words.
 #![forbid(unsafe_code)]
 
+pub mod crowded;
 pub mod layout;
 pub mod random;
 pub mod samples;

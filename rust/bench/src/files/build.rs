@@ -1,12 +1,13 @@
 //! Files put together: a table, statements over it, and the proofs.
-use super::crowded::{fill_crowded, most_at_one_root};
 use super::provable_table::ProvableTable;
 use super::prover::{truth, Goal, Prover};
 use super::{File, Sizes};
+use builder::crowded::{fill_crowded, most_at_one_root};
 use builder::layout;
 use builder::random::Random;
 use builder::steps::{code, AND_RIGHT};
 use builder::table::Entry::{And, Implies, Or, Says};
+use builder::table::Table;
 
 /// Statements to these, up to a count: formulas that have a short proof, so that they may stand in
 /// either list of an exchange. About every other one is signed, and few stand twice.
@@ -102,7 +103,11 @@ pub fn exchange(sizes: Sizes) -> File {
 
 fn crowded(formulas: usize) -> (ProvableTable, Vec<u16>) {
     let (mut table, base) = ProvableTable::begin();
-    fill_crowded(&mut table, formulas);
+    let mut filled = Table::clone(&table);
+    fill_crowded(&mut filled, formulas);
+    for number in table.len()..formulas {
+        table.add(filled.entry(number as u16));
+    }
     assert!(most_at_one_root(&table) > formulas / 2);
     (table, base)
 }
