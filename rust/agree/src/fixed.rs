@@ -1,5 +1,6 @@
 //! The fixed set of the tests: small exhaustive pieces, a run of seeded files, larger exhaustive
-//! pieces, and the largest files.
+//! pieces, files with crowded tables, and the largest files.
+use crate::crowded::{crowded, REPEATS, SIZES};
 use crate::given::{given, Given};
 use crate::largest::largest;
 use crate::parts::{Kind, Parts};
@@ -14,6 +15,10 @@ use builder::table::Entry::{self, And, Atom, False, Implies, Or};
 /// How many seeded files the set has.
 pub const SEEDED: u64 = 300_000;
 pub const SEED: u64 = 2006;
+
+/// How many files with crowded tables the set has, before the largest, which are its last.
+pub const CROWDED: u64 = 24;
+pub const LARGEST: u64 = 96;
 
 /// Files that are made one by one, by their numbers.
 struct Piece {
@@ -37,7 +42,8 @@ impl Fixed {
             pieces.extend((0..words.len()).map(|at| any_word(words, kind, at)));
         }
         pieces.extend(all_short_proofs());
-        pieces.push(Piece { count: 96, make: Box::new(largest_files) });
+        pieces.push(Piece { count: CROWDED, make: Box::new(crowded_files) });
+        pieces.push(Piece { count: LARGEST, make: Box::new(largest_files) });
         Fixed(pieces)
     }
 
@@ -170,6 +176,14 @@ fn all_short_proofs() -> Vec<Piece> {
         }
     }
     pieces
+}
+
+/// Each kind of file and size of a table, with each way to repeat.
+fn crowded_files(number: u64) -> Given {
+    let kind = if number & 1 == 0 { Kind::Record } else { Kind::Exchange };
+    let at = number as usize / 2;
+    let parts = crowded(kind, SIZES[at % SIZES.len()], REPEATS[at / SIZES.len()]);
+    Given { family: "crowded", ..fixed(kind, parts.bytes()) }
 }
 
 /// Each size at its largest or not; the file as it is, or with one formula, statement or step more

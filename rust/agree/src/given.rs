@@ -17,7 +17,8 @@ pub struct Given {
 }
 
 /// What a file is made as, in the order of the table that is printed.
-pub const FAMILIES: [&str; 7] = ["fixed", "right", "slip", "near miss", "noise", "deep", "largest"];
+pub const FAMILIES: [&str; 8] =
+    ["fixed", "right", "slip", "near miss", "noise", "deep", "crowded", "largest"];
 
 /// File `number` of a seed: the same on every machine and in every thread.
 pub fn given(seed: u64, number: u64) -> Given {

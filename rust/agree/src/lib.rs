@@ -6,12 +6,14 @@
 //!   parts. The package `builder` has what they are made of.
 //! - `derivations`, `records`, `exchanges`, `deep`, `largest`: right files, with every rule;
 //!   `slips`: what makes them right by a wrong reading.
+//! - `crowded`: tables made against the proved checker's test 5.
 //! - `misses`, `raw`, `noise`: near misses and noise.
 //! - `given`: which file a seed and a number make; `fixed`: the fixed set of the tests.
 //! - `compare`, `tally`, `run`: the comparison, the counts, the threads.
 #![forbid(unsafe_code)]
 
 pub mod compare;
+pub mod crowded;
 pub mod deep;
 pub mod derivations;
 pub mod exchanges;

@@ -1,10 +1,21 @@
 //! The proved checker and the second one on the fixed set, and what the generators promise.
 use agree::compare::{compared, Answer};
-use agree::fixed::{Fixed, SEED};
+use agree::fixed::{Fixed, CROWDED, LARGEST, SEED};
 use agree::given::given;
 use agree::parts::Kind;
 use agree::run::{run, STACK};
 use std::thread;
+
+/// Runs a check on a thread with room for deep trees.
+fn with_stack(check: impl FnOnce() + Send) {
+    thread::scope(|scope| {
+        let check = thread::Builder::new()
+            .stack_size(STACK)
+            .spawn_scoped(scope, check)
+            .expect("a thread starts");
+        check.join().expect("the check passes");
+    });
+}
 
 #[test]
 fn both_checkers_agree_on_the_fixed_set() {
@@ -34,12 +45,7 @@ fn files_made_as_right_are_granted_or_equal() {
             }
         }
     };
-    thread::Builder::new()
-        .stack_size(STACK)
-        .spawn(check)
-        .expect("a thread starts")
-        .join()
-        .expect("all are right");
+    with_stack(check);
 }
 
 #[test]
@@ -64,6 +70,30 @@ fn a_seed_makes_the_same_files_everywhere() {
     assert_eq!(format!("{sum:016x}"), "40b793497c4928e0");
 }
 
+/// "5. An entry has the head and second of an earlier one (place: the first such later entry": the
+/// last entry has, or the last two.
+#[test]
+fn crowded_tables_are_refused_for_their_first_repeat() {
+    let check = || {
+        let fixed = Fixed::new();
+        for number in 0..CROWDED {
+            let given = fixed.given(fixed.count() - LARGEST - CROWDED + number);
+            assert_eq!(given.family, "crowded");
+            let formulas = u16::from_le_bytes([given.file[0], given.file[1]]);
+            let (_, answer) = compared(&given).expect("no disagreement").remove(0);
+            let is_right = match (number / 8) as usize {
+                0 => matches!(answer, Answer::Granted(_) | Answer::Equal),
+                repeats => {
+                    let place = usize::from(formulas) - repeats;
+                    answer == Answer::Refused { number: 5, place }
+                }
+            };
+            assert!(is_right, "file {number}, {formulas} formulas: {answer:?}");
+        }
+    };
+    with_stack(check);
+}
+
 /// "The length is .. at most 49,672"; two full lists make an exchange file longer by another list.
 #[test]
 fn the_largest_files_are_as_large_as_may_be() {
@@ -71,7 +101,7 @@ fn the_largest_files_are_as_large_as_may_be() {
     let check = || {
         let fixed = Fixed::new();
         for number in 0..48 {
-            let given = fixed.given(fixed.count() - 96 + number);
+            let given = fixed.given(fixed.count() - LARGEST + number);
             let (kind, answer) = compared(&given).expect("no disagreement").remove(0);
             assert!(
                 matches!(answer, Answer::Granted(_) | Answer::Equal),
@@ -82,11 +112,5 @@ fn the_largest_files_are_as_large_as_may_be() {
         }
         assert_eq!([record, exchange], [49_672, 50_184]);
     };
-    thread::scope(|scope| {
-        let check = thread::Builder::new()
-            .stack_size(STACK)
-            .spawn_scoped(scope, check)
-            .expect("a thread starts");
-        check.join().expect("all are as large as may be");
-    });
+    with_stack(check);
 }
