@@ -109,8 +109,8 @@ module _ (hs ss : List ℕ) (roots : ℕ) (slots : List ℕ) (i : ℕ) where
 
 -- What is told of an entry that is in, and of one that is repeated.
 module _ (hs ss : List ℕ) (roots : ℕ) (slots : List ℕ) (i : ℕ) (r : Taken) (told : Told hs ss roots slots i r) where
-  pub told-in : r ≡ In → (isRepeated hs ss i ≡ false) × Indexed hs ss roots slots (i + 1)
-  told-in e = subst (Told hs ss roots slots i) e told
+  pub told-in : (left : ℕ) → r ≡ In left → (isRepeated hs ss i ≡ false) × Indexed hs ss roots slots (i + 1)
+  told-in left e = subst (Told hs ss roots slots i) e told
 
   pub told-repeated : r ≡ Repeated → isRepeated hs ss i ≡ true
   told-repeated e = subst (Told hs ss roots slots i) e told

@@ -24,22 +24,22 @@ fn key_of(head: u16, second: u16) -> usize
     head as usize + second as usize * 65536
 }
 
-// What became of an entry that was to be taken into the index.
+// What became of an entry that was to be taken into the index: it is in, with how many entries may still be passed.
 pub enum Taken {
-    In,
+    In(usize),
     Repeated,
-    TooDeep,
+    TooFar,
 }
 
-// Takes entry i into the index, unless an earlier entry has its head and second, or more than `most` entries stand on its
-// path. The first `roots` slots lead to the trees, then two for each entry lead on from it. A link is one more than the
-// number of an entry, or 0 for none.
+// Takes entry i into the index, unless an earlier entry has its head and second, or its path passes more entries than
+// may still be passed. The first `roots` slots lead to the trees, then two for each entry lead on from it. A link is one
+// more than the number of an entry, or 0 for none.
 fn take_in(
     heads: &[u16],
     seconds: &[u16],
     slots: &mut [u16],
     roots: usize,
-    most: usize,
+    passes: usize,
     i: usize,
 ) -> Taken
     requires { ⌜ Within (now heads) (now seconds) i × Indexed (now heads) (now seconds) roots (now slots) i ⌝ }
@@ -50,14 +50,14 @@ fn take_in(
     let mut bits = key_of(head, second);
     let mut at = root_of(head, second, roots);
     let mut link = slots[at] as usize;
-    let mut left = most;
+    let mut left = passes;
     while 0 < link {
         let j = link - 1;
         if are_same(heads, seconds, i, j) {
             return Taken::Repeated;
         }
         if left == 0 {
-            return Taken::TooDeep;
+            return Taken::TooFar;
         }
         left -= 1;
         at = roots + 2 * j + bits % 2;
@@ -65,34 +65,38 @@ fn take_in(
         link = slots[at] as usize;
     }
     slots[at] = (i + 1) as u16;
-    Taken::In
+    Taken::In(left)
 }
 
-// How the search by an index ended: with an answer, or at an entry that is too deep.
+// How the search by an index ended: with an answer, or at an entry that is too far.
 pub enum Search {
     Ended(Place),
     GivenUp,
 }
 
-// The first entry that has the head and second of an earlier one, by an index that is empty yet.
+// The first entry that has the head and second of an earlier one, by an index that is empty yet. All entries together
+// may pass `passes` entries on their paths.
 pub(crate) fn repeated_by(
     heads: &[u16],
     seconds: &[u16],
     slots: &mut [u16],
     roots: usize,
-    most: usize,
+    passes: usize,
 ) -> Search
     requires { ⌜ (length (now heads) ≡ length (now seconds)) × Indexed (now heads) (now seconds) roots (now slots) 0 ⌝ }
     ensures { λ r. ⌜ Answers r (repeatedEntry (now (heads .entry)) (now (seconds .entry))) ⌝ }
 {
+    let mut left = passes;
     let mut i = 0;
     while i < heads.len() {
-        match take_in(heads, seconds, slots, roots, most, i) {
-            Taken::In => {}
+        match take_in(heads, seconds, slots, roots, left, i) {
+            Taken::In(rest) => {
+                left = rest;
+            }
             Taken::Repeated => {
                 return Search::Ended(Place::At(i));
             }
-            Taken::TooDeep => {
+            Taken::TooFar => {
                 return Search::GivenUp;
             }
         }

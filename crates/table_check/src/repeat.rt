@@ -1,5 +1,6 @@
-// Test 5: no entry has the head and second of an earlier one. An index answers for most tables; where a path in it
-// gets long, chains by head do. So the time is linear in the number of entries, whatever the table.
+// Test 5: no entry has the head and second of an earlier one. An index answers for most tables; where the search by a
+// large one has passed half as many entries as there are, chains by head answer, which go to each entry once. A small
+// one passes at most 32 entries for each. So the time is linear in the number of entries, whatever the table.
 ghost use mathlib.Core.Path.{_≡_};
 ghost use Rattle.table.specs.Tests.{repeatedEntry};
 ghost use Rattle.table_check.specs.Index.{Cleared};
@@ -30,22 +31,25 @@ const MANY_ROOTS: usize = 4096;
 
 const MOST_ROOTS: usize = 16384;
 
-// On a path of a large index so many entries are passed: only tables that are made for it have longer ones.
-const SHORT: usize = 6;
+// No search by an index of some or fewer entries passes more: a path is no longer than the 32 bits of a key. So these
+// searches are never given up.
+const ENOUGH: usize = 32 * SOME;
 
-// The first of many entries that has the head and second of an earlier one.
+// The first of many entries that has the head and second of an earlier one. Half as many entries as there are may be
+// passed: a table that isn't made for it passes about an eighth as many.
 fn repeated_of_many(heads: &[u16], seconds: &[u16]) -> Place
     requires { ⌜ AfterFour (now heads) (now seconds) ⌝ }
     ensures { λ r. ⌜ r ≡ repeatedEntry (now (heads .entry)) (now (seconds .entry)) ⌝ }
 {
+    let half = heads.len() / 2;
     if heads.len() <= MANY {
         let mut slots = [0u16; MANY_ROOTS + 2 * MANY];
-        if let Search::Ended(place) = repeated_by(heads, seconds, &mut slots, MANY_ROOTS, SHORT) {
+        if let Search::Ended(place) = repeated_by(heads, seconds, &mut slots, MANY_ROOTS, half) {
             return place;
         }
     } else {
         let mut slots = [0u16; MOST_ROOTS + 2 * MOST_FORMULAS];
-        if let Search::Ended(place) = repeated_by(heads, seconds, &mut slots, MOST_ROOTS, SHORT) {
+        if let Search::Ended(place) = repeated_by(heads, seconds, &mut slots, MOST_ROOTS, half) {
             return place;
         }
     }
@@ -61,7 +65,7 @@ fn repeated_in(heads: &[u16], seconds: &[u16], slots: &mut [u16]) -> Place
     ensures { λ r. ⌜ r ≡ repeatedEntry (now (heads .entry)) (now (seconds .entry)) ⌝ }
 {
     if SOME_ROOTS + 2 * heads.len() <= slots.len() {
-        if let Search::Ended(place) = repeated_by(heads, seconds, slots, SOME_ROOTS, SOME) {
+        if let Search::Ended(place) = repeated_by(heads, seconds, slots, SOME_ROOTS, ENOUGH) {
             return place;
         }
         return repeated_by_head(heads, seconds);
@@ -86,14 +90,14 @@ pub(crate) fn repeated_entry(heads: &[u16], seconds: &[u16]) -> Place
             seconds,
             &mut slots,
             FEWEST_ROOTS,
-            FEWEST,
+            ENOUGH,
         ) {
             return place;
         }
     }
     if heads.len() <= FEW {
         let mut slots = [0u16; FEW_ROOTS + 2 * FEW];
-        if let Search::Ended(place) = repeated_by(heads, seconds, &mut slots, FEW_ROOTS, FEW) {
+        if let Search::Ended(place) = repeated_by(heads, seconds, &mut slots, FEW_ROOTS, ENOUGH) {
             return place;
         }
     }

@@ -15,14 +15,14 @@ use Rattle.table_check.proofs.by_index.repeated_by.Statement.{statement
 use Rattle.table_check.proofs.by_index.repeated_by.Tie as tie
 
 abbrev Inv-loop : tie.InvT-loop
-Inv-loop heads seconds slots₀ roots most i₀ slots i =
+Inv-loop heads seconds slots₀ roots passes left₀ i₀ slots left i =
     (i ≤ length heads)
     × (length slots ≡ length slots₀)
     × Indexed heads seconds roots slots i
     × (first (isRepeated heads seconds) i ≡ Nowhere)
 
 abbrev μ-loop : tie.MeasureT-loop
-μ-loop heads seconds slots₀ roots most i₀ slots i = length heads - i
+μ-loop heads seconds slots₀ roots passes left₀ i₀ slots left i = length heads - i
 
 loop-holds : tie.Need-loop-holds Inv-loop μ-loop
 unfolding first
@@ -42,7 +42,7 @@ returns c =
     let l = c .before .before .before .before .before .before .before .loop in
     let t = c .before .before .before .before .take-in in
     repeated-at _ _ (l .i) (omega arith) (l .inv .3)
-    (told-repeated (a .heads .now) (a .seconds .now) (a .roots) (t .last .1 .1 .0) (l .i) (t .result) (t .ensures) (c .enum-told2 .given .1))
+    (told-repeated (a .heads .now) (a .seconds .now) (a .roots) (t .last .1 .1 .0) (l .i) (t .result) (t .ensures) (c .enum-told .given .1))
 
 same-length-2 : tie.Need-same-length-2 Inv-loop μ-loop
 same-length-2 c = c .before .before .before .before .take-in .kept .1 .1 .0 ∙ c .before .before .before .before .before .before .before .loop .inv .1
@@ -52,10 +52,13 @@ returns-2 c = tt
 
 loop-again : tie.Need-loop-again Inv-loop μ-loop
 loop-again c =
-    let a = c .before .before .before .before .before .before .before .before .before .before .before .args in
-    let l = c .before .before .before .before .before .before .before .loop in
-    let t = c .before .before .before .before .take-in in
-    let (new, index) = told-in (a .heads .now) (a .seconds .now) (a .roots) (t .last .1 .1 .0) (l .i) (t .result) (t .ensures) (c .enum-told .given .1) in
+    let a = c .before .before .before .before .before .before .before .before .before .before .before .before .args in
+    let l = c .before .before .before .before .before .before .before .before .loop in
+    let t = c .before .before .before .before .before .take-in in
+    let (new, index) =
+    told-in (a .heads .now) (a .seconds .now) (a .roots) (t .last .1 .1 .0) (l .i) (t .result) (t .ensures)
+    _ (c .before .rest .given .1)
+    in
     (omega arith, t .kept .1 .1 .0 ∙ l .inv .1, index, first-none-more (isRepeated (a .heads .now) (a .seconds .now)) (l .i) (l .inv .3) new)
 
 same-length-3 : tie.Need-same-length-3 Inv-loop μ-loop

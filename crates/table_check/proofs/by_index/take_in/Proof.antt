@@ -10,10 +10,10 @@ use Rattle.table_check.proofs.by_index.take_in.Statement.{statement}
 use Rattle.table_check.proofs.by_index.take_in.Tie as tie
 
 abbrev Inv-loop : tie.InvT-loop
-Inv-loop heads seconds slots roots most i head second bits₀ at₀ link₀ left₀ bits at link left = Searched heads seconds roots slots i at bits link
+Inv-loop heads seconds slots roots passes i head second bits₀ at₀ link₀ left₀ bits at link left = Searched heads seconds roots slots i at bits link
 
 abbrev μ-loop : tie.MeasureT-loop
-μ-loop heads seconds slots roots most i head second bits₀ at₀ link₀ left₀ bits at link left = roots + 2 * i - at
+μ-loop heads seconds slots roots passes i head second bits₀ at₀ link₀ left₀ bits at link left = roots + 2 * i - at
 
 root-of-requires : tie.Need-root-of-requires Inv-loop μ-loop
 root-of-requires c κs = omega (arith, c .before .before .before .before .before .before .pre .1 .room)
@@ -49,7 +49,7 @@ returns c =
     let l = c .before .before .before .loop in
     search-finds _ _ _ _ _ (p .1) _ _ _ (l .inv) (c .before .before .loop-test .taken) (sym (c .before .are-same .ensures) ∙ c .if1 .taken)
 
--- of an entry that is too deep nothing is told
+-- of an entry that is too far nothing is told
 returns-2 : tie.Need-returns-2 Inv-loop μ-loop
 returns-2 c = tt
 
