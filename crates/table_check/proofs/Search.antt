@@ -56,7 +56,7 @@ module _ (hs ss : List ℕ) (roots : ℕ) (slots : List ℕ) (i : ℕ) where
         record {
           holds = refl;
           earlier = index .known p;
-          before = omega (arith, root-below ((getD hs i 0 + getD ss i 0 * 5061) * 40503) roots (index .some-root));
+          before = omega (arith, root-below ((getD hs i 0 + getD ss i 0 * 39277) * 40503) roots (index .some-root));
           ahead = λ k l e. rw (at, bits) (same-path k e (index .each k l));
           leads = λ e empty m. rw (at, bits) at m;
         }

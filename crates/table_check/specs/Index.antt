@@ -18,7 +18,7 @@ use Rattle.table_check.specs.declared.by_index.Search.the-variants.{Ende
 
 -- the root of a head and a second: any function would do for what is promised; this one is for speed
 abbrev pub root : ℕ → ℕ → ℕ → ℕ
-root roots head second = (head + second * 5061) * 40503 % 65536 * roots / 65536
+root roots head second = (head + second * 39277) * 40503 % 65536 * roots / 65536
 
 -- the number whose bits, from the lowest, lead through a tree
 abbrev pub key : ℕ → ℕ → ℕ

@@ -14,7 +14,7 @@ fn root_of(head: u16, second: u16, roots: usize) -> usize
     requires { ⌜ roots < 65536 ⌝ }
     ensures { λ r. ⌜ r ≡ root roots head second ⌝ }
 {
-    (head as usize + second as usize * 5061) * 40503 % 65536 * roots / 65536
+    (head as usize + second as usize * 39277) * 40503 % 65536 * roots / 65536
 }
 
 // Its bits lead through the tree. Unlike for unlike entries, so that a path ends; no more is needed of it.

@@ -9,7 +9,7 @@ use std::collections::VecDeque;
 // SPREAD mod 65,536, times the number of roots, over 65,536. As repeat.rt has it, a table of more
 // than 256 formulas has MANY_ROOTS where it has no more than MANY, else MOST_ROOTS; and a path in
 // these trees passes SHORT entries. tests/crowded.rs compares all six with the two.
-pub const FACTOR: u16 = 5061;
+pub const FACTOR: u16 = 39277;
 pub const SPREAD: u16 = 40_503;
 pub const MANY: usize = 1024;
 pub const MANY_ROOTS: usize = 4096;

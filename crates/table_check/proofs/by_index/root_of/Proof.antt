@@ -9,7 +9,7 @@ use Rattle.table_check.proofs.by_index.root_of.Tie as tie
 mul-result-3 : tie.Need-mul-result-3
 mul-result-3 c =
     let a = c .args in
-    omega (arith, product-fits ((a .head + a .second * 5061) * 40503) (a .roots) (c .pre))
+    omega (arith, product-fits ((a .head + a .second * 39277) * 40503) (a .roots) (c .pre))
 
 pub root-of-spec : {M : Type 1} → statement M
 root-of-spec =
