@@ -58,10 +58,10 @@ fn are_well_formed(heads: &[u16], seconds: &[u16]) -> bool
     ensures { λ r. ⌜ r ≡ not (found (wrongEntry (entries (now (heads .entry)) (now (seconds .entry))))) ⌝ }
 {
     let mut so_far = true;
-    let mut i = 0;
-    while i < heads.len() {
-        so_far = so_far & is_well_formed(i as u16, heads[i], seconds[i]);
-        i += 1;
+    let mut n = 0;
+    while n < heads.len() {
+        so_far = so_far & is_well_formed(n as u16, heads[n], seconds[n]);
+        n += 1;
     }
     so_far
 }

@@ -1,5 +1,5 @@
 -- `table_check::order::are_well_formed` meets its contract. The loop's invariant: `so_far` says whether all entries
--- before i are well-formed. Assumes nothing.
+-- before n are well-formed. Assumes nothing.
 use Prim.Native.Nat.{_≤_, _-_}
 use native.Mathlib.Omega.{arith}
 use mathlib.Core.Bool.{not}
@@ -12,11 +12,11 @@ use Rattle.table_check.proofs.order.are_well_formed.Statement.{statemen
 use Rattle.table_check.proofs.order.are_well_formed.Tie as tie
 
 abbrev Inv-loop : tie.InvT-loop
-Inv-loop heads seconds so-far₀ i₀ so-far i =
-    (i ≤ length heads) × (so-far ≡ not (found (first (wrong heads seconds) i)))
+Inv-loop heads seconds so-far₀ n₀ so-far n =
+    (n ≤ length heads) × (so-far ≡ not (found (first (wrong heads seconds) n)))
 
 abbrev μ-loop : tie.MeasureT-loop
-μ-loop heads seconds so-far₀ i₀ so-far i = length heads - i
+μ-loop heads seconds so-far₀ n₀ so-far n = length heads - n
 
 loop-holds : tie.Need-loop-holds Inv-loop μ-loop
 unfolding first
@@ -26,13 +26,13 @@ loop-again : tie.Need-loop-again Inv-loop μ-loop
 loop-again c =
     let l = c .before .before .before .before .loop in
     let p = c .before .before .before .before .before .before .before .pre in
-    (omega arith, none-wrong-more _ _ (l .i) (l .so-far) _ (l .inv .1) (judged _ _ _ _ (omega arith) (omega (arith, p .0)) (c .is-well-formed .ensures)))
+    (omega arith, none-wrong-more _ _ (l .n) (l .so-far) _ (l .inv .1) (judged _ _ _ _ (omega arith) (omega (arith, p .0)) (c .is-well-formed .ensures)))
 
 returns : tie.Need-returns Inv-loop μ-loop
 returns c =
     let l = c .before .loop in
     let p = c .before .before .before .before .pre in
-    l .inv .1 ∙ ap (λ q. not (found q)) (wrong-end _ _ (l .i) (p .0) (omega arith))
+    l .inv .1 ∙ ap (λ q. not (found q)) (wrong-end _ _ (l .n) (p .0) (omega arith))
 
 pub are-well-formed-spec : {M : Type 1} → statement M
 are-well-formed-spec =
