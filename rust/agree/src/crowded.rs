@@ -2,7 +2,7 @@
 //! chains by head: without a repeat, with one, and with two under different heads.
 use crate::identity::identity;
 use crate::parts::{Kind, Parts};
-use builder::crowded::{fill_crowded, most_at_one_root, MOST_IN_A_TREE};
+use builder::crowded::{fill_crowded, is_given_up};
 use builder::table::Entry::{self, And, Atom, Or, Says};
 use builder::table::Table;
 
@@ -24,7 +24,7 @@ pub fn crowded(kind: Kind, formulas: usize, again: &[Entry]) -> Parts {
     let stated = BEGINNING.map(|entry| table.number(entry)).to_vec();
     fill_crowded(&mut table, formulas);
     // the index is given up before the first repeat
-    assert!(most_at_one_root(&table) > MOST_IN_A_TREE + again.len());
+    assert!(is_given_up(&table[..table.len() - again.len()], table.len()));
     let mut parts = over(kind, &table, stated);
     for (place, entry) in (formulas - again.len()..).zip(again) {
         parts.table[place] = entry.words();

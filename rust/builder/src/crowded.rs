@@ -1,24 +1,20 @@
 //! Tables that crowd the index by which the proved checker makes test 5: their entries fall to few
-//! of its roots. Soon a path is longer than the checker follows, and it goes along chains by head
-//! instead. The generator asks of the factor only that it is odd.
+//! of its roots. Soon more entries are passed than the checker allows, and it goes along chains by
+//! head instead. The generator asks of the factor only that it is odd.
 use crate::table::Entry::{self, And, Atom, False, Implies, Or, Says};
 use crate::table::Table;
 use std::collections::VecDeque;
 
 // As crates/table_check/src/by_index.rt has it, the root of an entry is (head + second × FACTOR) ×
 // SPREAD mod 65,536, times the number of roots, over 65,536. As repeat.rt has it, a table of more
-// than 256 formulas has MANY_ROOTS where it has no more than MANY, else MOST_ROOTS; and a path in
-// these trees passes SHORT entries. tests/crowded.rs compares all six with the two.
+// than 256 formulas has MANY_ROOTS where it has no more than MANY, else MOST_ROOTS; and the index is
+// given up where it passes more than half as many entries as there are. tests/crowded.rs compares
+// all this with the two.
 pub const FACTOR: u16 = 39277;
 pub const SPREAD: u16 = 40_503;
 pub const MANY: usize = 1024;
 pub const MANY_ROOTS: usize = 4096;
 pub const MOST_ROOTS: usize = 16_384;
-pub const SHORT: usize = 6;
-
-/// So many entries have a place in one tree at most. Where more have its root, the index is given
-/// up.
-pub const MOST_IN_A_TREE: usize = (2 << SHORT) - 1;
 
 /// How many spread sums have one root where the roots are most. Where they are many, those of four
 /// roots that follow one another have one.
@@ -88,12 +84,24 @@ pub fn fill_crowded(table: &mut Table, formulas: usize) {
     }
 }
 
-/// How many entries share the root that has most, in a table of more than 256.
-pub fn most_at_one_root(table: &[(u16, u16)]) -> usize {
-    let roots = if table.len() <= MANY { MANY_ROOTS } else { MOST_ROOTS };
+/// How many entries have each root, of a part of a table of so many formulas, more than 256.
+fn at_each_root(part: &[(u16, u16)], formulas: usize) -> Vec<usize> {
+    let roots = if formulas <= MANY { MANY_ROOTS } else { MOST_ROOTS };
     let mut counts = vec![0; roots];
-    for &words in table {
+    for &words in part {
         counts[root(words, roots)] += 1;
     }
-    counts.into_iter().max().expect("there are roots")
+    counts
+}
+
+/// How many entries share the root that has most, in a table of more than 256.
+pub fn most_at_one_root(table: &[(u16, u16)]) -> usize {
+    at_each_root(table, table.len()).into_iter().max().expect("there are roots")
+}
+
+/// Whether the index is given up before the end of the first part of a table of so many formulas,
+/// more than 256: each entry but the first of its root passes one or more.
+pub fn is_given_up(part: &[(u16, u16)], formulas: usize) -> bool {
+    let roots = at_each_root(part, formulas).into_iter().filter(|&count| count > 0).count();
+    part.len() - roots > formulas / 2
 }

@@ -1,6 +1,6 @@
 //! The index that is crowded is the proved checker's. A table made against another one is answered
 //! alike, but not by the chains, and nothing else would show it.
-use builder::crowded::{FACTOR, MANY, MANY_ROOTS, MOST_ROOTS, SHORT, SPREAD};
+use builder::crowded::{FACTOR, MANY, MANY_ROOTS, MOST_ROOTS, SPREAD};
 use std::fs;
 use std::path::Path;
 
@@ -23,9 +23,8 @@ fn the_root_is_that_of_by_index() {
 
 #[test]
 fn the_sizes_are_those_of_repeat() {
-    let sizes =
-        [("MANY", MANY), ("MANY_ROOTS", MANY_ROOTS), ("MOST_ROOTS", MOST_ROOTS), ("SHORT", SHORT)];
-    for (name, value) in sizes {
+    for (name, value) in [("MANY", MANY), ("MANY_ROOTS", MANY_ROOTS), ("MOST_ROOTS", MOST_ROOTS)] {
         assert_in("repeat.rt", &format!("const {name}: usize = {value};"));
     }
+    assert_in("repeat.rt", "let half = heads.len() / 2;");
 }
