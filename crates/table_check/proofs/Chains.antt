@@ -95,6 +95,7 @@ module _ (hs ss : List ℕ) (head : ℕ) where
   pub record InChain (bound : ℕ) (seen : List ℕ) (found j : ℕ) : Type 0 where
     pub notes : Notes hs seen
     pub within : found ≤ bound
+    pub has-head : found < bound → getD hs found 0 ≡ head
     pub is-repeated : found < bound → isRepeated hs ss found ≡ true
     pub none-before : (k : ℕ) → k < found → k < j → getD hs k 0 ≡ head → isRepeated hs ss k ≡ false
     pub its : j < length hs → getD hs j 0 ≡ head
@@ -106,6 +107,7 @@ module _ (hs ss : List ℕ) (head : ℕ) where
       record {
         notes = notes;
         within = omega arith;
+        has-head = λ l. absurd (omega arith);
         is-repeated = λ l. absurd (omega arith);
         none-before = λ k l before is. absurd (next .none-between k (omega arith) before (omega arith) is);
         its = next .its;
@@ -114,11 +116,12 @@ module _ (hs ss : List ℕ) (head : ℕ) where
 
   module _ (bound : ℕ) (seen : List ℕ) (found j : ℕ) (s : InChain bound seen found j) where
     -- finds entry j, where an earlier one is the same,
-    pub chain-finds : (k : ℕ) → j < found → k < j → same hs ss j k ≡ true → InChain bound seen j j
-    chain-finds k l before e =
+    pub chain-finds : (k : ℕ) → j < found → j < length hs → k < j → same hs ss j k ≡ true → InChain bound seen j j
+    chain-finds k l inside before e =
         record {
           notes = s .notes;
           within = omega (arith, s .within);
+          has-head = λ less. s .its inside;
           is-repeated = λ less. earlier-same hs ss j k before e;
           none-before = λ i less before is. s .none-before i (omega arith) before is;
           its = s .its;
@@ -130,6 +133,7 @@ module _ (hs ss : List ℕ) (head : ℕ) where
     chain-ends past =
         record {
           within = s .within;
+          has-head = s .has-head;
           is-repeated = s .is-repeated;
           none-before = λ k l is. s .none-before k l (omega arith) is;
         }
@@ -194,6 +198,7 @@ module _ (hs ss : List ℕ) (head : ℕ) where
                   entry = λ second some. notes-more second some (ℕ-discrete second (getD ss j 0));
                 };
             within = s .within;
+            has-head = s .has-head;
             is-repeated = s .is-repeated;
             none-before = λ k l before is. none-more k l (up-to k before (omega (arith, s .within)) is) is (ℕ-discrete k j);
             its = next .its;

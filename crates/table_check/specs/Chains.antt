@@ -6,7 +6,8 @@ use mathlib.Core.Bool.{true, false}
 use mathlib.Core.List.{List}
 use mathlib.Core.Path.{_≡_}
 use lib.ListN.{length, getD}
-use Rattle.basics.specs.Limits.{mostFormulas, mostAtoms}
+use Rattle.basics.specs.Limits.{mostFormulas}
+use Rattle.basics.specs.Word.{radix}
 use Rattle.table_check.specs.Index.{isRepeated}
 
 module _ (heads : List ℕ) where
@@ -40,7 +41,7 @@ module _ (heads : List ℕ) where
     pub record AfterFour : Type 0 where
       pub alike : length heads ≡ length seconds
       pub few : length heads ≤ mostFormulas
-      pub low-heads : (i : ℕ) → i < length heads → getD heads i 0 < 6 * mostAtoms
+      pub low-heads : (i : ℕ) → i < length heads → getD heads i 0 < 6 * radix
       pub low-seconds : (i : ℕ) → i < length heads → getD seconds i 0 < mostFormulas
 
     -- what the search along a chain asks: all entries are linked, and i is the first entry with its head
@@ -54,5 +55,6 @@ module _ (heads : List ℕ) where
     -- found is the first entry before the bound that has the head and is repeated; where there is none, it is the bound
     pub record FirstOfHead (head bound found : ℕ) : Type 0 where
       pub within : found ≤ bound
+      pub has-head : found < bound → getD heads found 0 ≡ head
       pub is-repeated : found < bound → isRepeated heads seconds found ≡ true
       pub none-before : (k : ℕ) → k < found → getD heads k 0 ≡ head → isRepeated heads seconds k ≡ false

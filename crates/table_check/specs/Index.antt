@@ -31,7 +31,9 @@ onward roots j x = roots + 2 * j + x % 2
 -- the search from slot p with the bits x meets entry k
 pub data Meets (roots : ℕ) (slots : List ℕ) (k : ℕ) : ℕ → ℕ → Type 0 where
   here : {p x : ℕ} → getD slots p 0 ≡ k + 1 → Meets roots slots k p x
-  further : {p x : ℕ} (j : ℕ) → getD slots p 0 ≡ j + 1 → Meets roots slots k (onward roots j x) (x / 2) → Meets roots slots k p x
+  further :
+      {p x : ℕ} (j : ℕ) → getD slots p 0 ≡ j + 1 → Meets roots slots k (onward roots j x) (x / 2)
+      → Meets roots slots k p x
 
 module _ (heads seconds : List ℕ) where
   -- i is a place of both arrays

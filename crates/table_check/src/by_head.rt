@@ -9,7 +9,7 @@ use basics::limits::MOST_ATOMS;
 use basics::limits::MOST_FORMULAS;
 use basics::place::Place;
 
-// The head of an entry of the six kinds is lower.
+// The head of an entry of the six kinds is lower: a kind has as many heads as there are atoms.
 const HEADS: usize = 6 * MOST_ATOMS;
 
 // No entry has this number.
@@ -30,8 +30,8 @@ fn chain(heads: &[u16], first: &mut [u16], next: &mut [u16])
     }
 }
 
-// The first entry of a chain that has the second of an earlier one, if it stands before `bound`; else `bound`. The chain
-// begins at entry i. `seen` has at a second the last entry that was met with it.
+// The first entry of a chain that has the second of an earlier one, if it stands before `bound`; else `bound`. The
+// chain begins at entry i. `seen` has at a second the last entry that was met with it.
 fn repeated_in_chain(
     heads: &[u16],
     seconds: &[u16],

@@ -17,7 +17,8 @@ fn root_of(head: u16, second: u16, roots: usize) -> usize
     (head as usize + second as usize * 39277) * 40503 % 65536 * roots / 65536
 }
 
-// Its bits lead through the tree. Unlike for unlike entries, so that a path ends; no more is needed of it.
+// Its bits lead through the tree. Any would do for the answer; since unlike entries have unlike keys, no path is longer
+// than their 32 bits.
 fn key_of(head: u16, second: u16) -> usize
     ensures { λ r. ⌜ r ≡ key head second ⌝ }
 {
@@ -32,8 +33,8 @@ pub enum Taken {
 }
 
 // Takes entry i into the index, unless an earlier entry has its head and second, or its path passes more entries than
-// may still be passed. The first `roots` slots lead to the trees, then two for each entry lead on from it. A link is one
-// more than the number of an entry, or 0 for none.
+// may still be passed. The first `roots` slots lead to the trees, then two for each entry lead on from it. A link is
+// one more than the number of an entry, or 0 for none.
 fn take_in(
     heads: &[u16],
     seconds: &[u16],

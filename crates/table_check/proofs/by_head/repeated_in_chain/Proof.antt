@@ -70,7 +70,8 @@ loop-again : tie.Need-loop-again Inv-loop μ-loop
 loop-again c =
     let l = c .before .before .before .before .before .before .loop in (
       l .inv .0,
-      chain-finds _ _ _ _ _ _ _ (l .inv .1) _ (c .before .before .before .before .before .loop-test .taken) (c .before .before .if1 .taken)
+      chain-finds _ _ _ _ _ _ _ (l .inv .1) _ (c .before .before .before .before .before .loop-test .taken)
+          (within (c .before .before .before .before .before)) (c .before .before .if1 .taken)
           (sym (c .before .are-same .ensures) ∙ c .if2 .taken),
     )
 
