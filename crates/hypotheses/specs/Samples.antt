@@ -1,7 +1,7 @@
 -- "Hypotheses .. form a set: a statement that stands twice is one hypothesis" (01): samples of the slots, four marks and
 -- four places, in which no two can change places. Proved in proofs/Samples.antt, by computation. Assumes nothing.
 use Prim.Native.Nat.{ℕ}
-use mathlib.Core.Bool.{Bool, true, false}
+use mathlib.Core.Bool.{true, false}
 use mathlib.Core.Path.{_≡_}
 use mathlib.Core.List.{List, [], _∷_, map}
 use Rattle.hypotheses.specs.Slots.{isHeld, shown, heldOne, countOne, heldAll, countAll, released}

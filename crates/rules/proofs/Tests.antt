@@ -10,7 +10,6 @@ use lib.Dec.{ltb}
 use borrow.Author.Tests.{lt-ltb, le-ltb, le-leb, lt-leb, ltb-true, ltb-false}
 use Rattle.basics.specs.Choice.{both}
 use Rattle.basics.specs.Limits.{mostDepth}
-use Rattle.basics.specs.Membership.{holds}
 use Rattle.basics.specs.Word.{upper, lower}
 use Rattle.table.specs.declared.entry.Entry.{Entry}
 use Rattle.table.specs.Tests.{entries}
@@ -19,7 +18,7 @@ use Rattle.steps.specs.declared.goal.Goal.{Goal}
 use Rattle.steps.specs.declared.opened.Opened.{Opened}
 use Rattle.steps.specs.declared.opened.Opened.the-variants as Opening
 use Rattle.steps.specs.Obligation.{Obligation}
-use Rattle.steps.specs.Step.{Rule, names, plain, unknown, rules, applied, opens, step}
+use Rattle.steps.specs.Step.{names, plain, unknown, rules, opens, step}
 use Rattle.steps.specs.Figure1 as Figure1
 use Rattle.steps.specs.Figure1.{same}
 use Rattle.hypotheses.specs.Slots.{isHeld, shown}
