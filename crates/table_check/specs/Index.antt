@@ -12,7 +12,7 @@ use Rattle.basics.specs.declared.place.Place.{Place}
 use Rattle.basics.specs.First.{first, found}
 use Rattle.table.specs.Tests.{same}
 use Rattle.table_check.specs.declared.by_index.Taken.{Taken}
-use Rattle.table_check.specs.declared.by_index.Taken.the-variants.{In, Repeated, TooFar}
+use Rattle.table_check.specs.declared.by_index.Taken.the-variants.{In, Repeated}
 use Rattle.table_check.specs.declared.by_index.Search.{Search}
 use Rattle.table_check.specs.declared.by_index.Search.the-variants.{Ended, GivenUp}
 
@@ -61,9 +61,8 @@ module _ (heads seconds : List ℕ) where
 
   -- what is told of entry i, which was to be taken into the index
   abbrev pub Told : ℕ → List ℕ → ℕ → Taken → Type 0
-  Told roots slots i (In left) = (isRepeated i ≡ false) × Indexed roots slots (i + 1)
+  Told roots slots i (In passed) = (isRepeated i ≡ false) × Indexed roots slots (i + 1)
   Told roots slots i Repeated = isRepeated i ≡ true
-  Told roots slots i TooFar = Unit
 
 -- slots for an index, with no link yet
 pub record Cleared (slots : List ℕ) : Type 0 where

@@ -25,24 +25,16 @@ fn key_of(head: u16, second: u16) -> usize
     head as usize + second as usize * 65536
 }
 
-// What became of an entry that was to be taken into the index: it is in, with how many entries may still be passed.
+// What became of an entry that was to be taken into the index: it is in, and so many entries were passed on its path.
 pub enum Taken {
     In(usize),
     Repeated,
-    TooFar,
 }
 
-// Takes entry i into the index, unless an earlier entry has its head and second, or its path passes more entries than
-// may still be passed. The first `roots` slots lead to the trees, then two for each entry lead on from it. A link is
-// one more than the number of an entry, or 0 for none.
-fn take_in(
-    heads: &[u16],
-    seconds: &[u16],
-    slots: &mut [u16],
-    roots: usize,
-    passes: usize,
-    i: usize,
-) -> Taken
+// Takes entry i into the index, unless an earlier entry has its head and second. The first `roots` slots lead to the
+// trees, then two for each entry lead on from it. A link is one more than the number of an entry, or 0 for none. No
+// path is long, so that it's enough to ask after each entry how many were passed; asking at each would be slower.
+fn take_in(heads: &[u16], seconds: &[u16], slots: &mut [u16], roots: usize, i: usize) -> Taken
     requires { ⌜ Within (now heads) (now seconds) i × Indexed (now heads) (now seconds) roots (now slots) i ⌝ }
     ensures { λ r. ⌜ Told (now (heads .entry)) (now (seconds .entry)) roots (now (slots .exit)) i r ⌝ }
 {
@@ -51,25 +43,22 @@ fn take_in(
     let mut bits = key_of(head, second);
     let mut at = root_of(head, second, roots);
     let mut link = slots[at] as usize;
-    let mut left = passes;
+    let mut passed = 0;
     while 0 < link {
         let j = link - 1;
         if are_same(heads, seconds, i, j) {
             return Taken::Repeated;
         }
-        if left == 0 {
-            return Taken::TooFar;
-        }
-        left -= 1;
+        passed += 1;
         at = roots + 2 * j + bits % 2;
         bits = bits / 2;
         link = slots[at] as usize;
     }
     slots[at] = (i + 1) as u16;
-    Taken::In(left)
+    Taken::In(passed)
 }
 
-// How the search by an index ended: with an answer, or at an entry that is too far.
+// How the search by an index ended: with an answer, or where too many entries had been passed.
 pub enum Search {
     Ended(Place),
     GivenUp,
@@ -90,15 +79,15 @@ pub(crate) fn repeated_by(
     let mut left = passes;
     let mut i = 0;
     while i < heads.len() {
-        match take_in(heads, seconds, slots, roots, left, i) {
-            Taken::In(rest) => {
-                left = rest;
+        match take_in(heads, seconds, slots, roots, i) {
+            Taken::In(passed) => {
+                if left < passed {
+                    return Search::GivenUp;
+                }
+                left -= passed;
             }
             Taken::Repeated => {
                 return Search::Ended(Place::At(i));
-            }
-            Taken::TooFar => {
-                return Search::GivenUp;
             }
         }
         i += 1;

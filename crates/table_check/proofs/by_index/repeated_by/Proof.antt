@@ -34,32 +34,36 @@ take-in-requires c κs =
     (record { in-heads = omega arith; in-seconds = omega (arith, p) }, c .before .before .loop .inv .2)
 
 same-length : tie.Need-same-length Inv-loop μ-loop
-same-length c = c .before .before .before .before .take-in .kept .1 .1 .0 ∙ c .before .before .before .before .before .before .before .loop .inv .1
+same-length c = c .before .before .before .before .before .before .take-in .kept .1 .1 .0 ∙ c .before .before .before .before .before .before .before .before .before .loop .inv .1
 
+-- a search that is given up has no answer
 returns : tie.Need-returns Inv-loop μ-loop
-returns c =
-    let a = c .before .before .before .before .before .before .before .before .before .before .before .args in
-    let l = c .before .before .before .before .before .before .before .loop in
-    let t = c .before .before .before .before .take-in in
-    repeated-at _ _ (l .i) (omega arith) (l .inv .3)
-    (told-repeated (a .heads .now) (a .seconds .now) (a .roots) (t .last .1 .1 .0) (l .i) (t .result) (t .ensures) (c .enum-told .given .1))
+returns c = tt
 
 same-length-2 : tie.Need-same-length-2 Inv-loop μ-loop
 same-length-2 c = c .before .before .before .before .take-in .kept .1 .1 .0 ∙ c .before .before .before .before .before .before .before .loop .inv .1
 
 returns-2 : tie.Need-returns-2 Inv-loop μ-loop
-returns-2 c = tt
+returns-2 c =
+    let a = c .before .before .before .before .before .before .before .before .before .before .before .args in
+    let l = c .before .before .before .before .before .before .before .loop in
+    let t = c .before .before .before .before .take-in in
+    repeated-at _ _ (l .i) (omega arith) (l .inv .3)
+    (told-repeated (a .heads .now) (a .seconds .now) (a .roots) (t .last .1 .1 .0) (l .i) (t .result) (t .ensures)
+    (c .enum-told .given .1))
 
 loop-again : tie.Need-loop-again Inv-loop μ-loop
 loop-again c =
-    let a = c .before .before .before .before .before .before .before .before .before .before .before .before .args in
-    let l = c .before .before .before .before .before .before .before .before .loop in
-    let t = c .before .before .before .before .before .take-in in
-    let (new, index) =
-    told-in (a .heads .now) (a .seconds .now) (a .roots) (t .last .1 .1 .0) (l .i) (t .result) (t .ensures)
-    _ (c .before .rest .given .1)
-    in
-    (omega arith, t .kept .1 .1 .0 ∙ l .inv .1, index, first-none-more (isRepeated (a .heads .now) (a .seconds .now)) (l .i) (l .inv .3) new)
+    let a = c .before .before .before .before .before .before .before .before .before .before .before .before .before .args in
+    let l = c .before .before .before .before .before .before .before .before .before .loop in
+    let t = c .before .before .before .before .before .before .take-in in
+    let told = told-in (a .heads .now) (a .seconds .now) (a .roots) (t .last .1 .1 .0) (l .i) (t .result) (t .ensures) in
+    let (new, index) = told _ (c .before .before .passed .given .1) in (
+      omega arith,
+      t .kept .1 .1 .0 ∙ l .inv .1,
+      index,
+      first-none-more (isRepeated (a .heads .now) (a .seconds .now)) (l .i) (l .inv .3) new,
+    )
 
 same-length-3 : tie.Need-same-length-3 Inv-loop μ-loop
 same-length-3 c = c .before .loop .inv .1
@@ -75,7 +79,6 @@ repeated-by-spec =
     μ-loop
     loop-holds
     take-in-requires
-    (λ c. search needs)
     (λ c. search needs)
     same-length
     returns

@@ -1,6 +1,6 @@
 -- `table_check::by_index::take_in` meets its contract. The loop's invariant: an earlier entry that is the same as i is
 -- met from the slot that the search has come to. The measure falls since links rise along a path. Assumes nothing.
-use Prim.Native.Nat.{_+_, _*_, _-_}
+use Prim.Native.Nat.{_+_, _*_, _-_, _≤_}
 use native.Mathlib.Omega.{arith}
 use mathlib.Core.Path.{sym, _∙_}
 use borrow.Author.Needs.{needs}
@@ -10,10 +10,11 @@ use Rattle.table_check.proofs.by_index.take_in.Statement.{statement}
 use Rattle.table_check.proofs.by_index.take_in.Tie as tie
 
 abbrev Inv-loop : tie.InvT-loop
-Inv-loop heads seconds slots roots passes i head second bits₀ at₀ link₀ left₀ bits at link left = Searched heads seconds roots slots i at bits link
+Inv-loop heads seconds slots roots i head second bits₀ at₀ link₀ passed₀ bits at link passed =
+    Searched heads seconds roots slots i at bits link × (passed ≤ at)
 
 abbrev μ-loop : tie.MeasureT-loop
-μ-loop heads seconds slots roots passes i head second bits₀ at₀ link₀ left₀ bits at link left = roots + 2 * i - at
+μ-loop heads seconds slots roots i head second bits₀ at₀ link₀ passed₀ bits at link passed = roots + 2 * i - at
 
 root-of-requires : tie.Need-root-of-requires Inv-loop μ-loop
 root-of-requires c κs = omega (arith, c .before .before .before .before .before .before .pre .1 .room)
@@ -36,7 +37,7 @@ cast-link c =
 loop-holds : tie.Need-loop-holds Inv-loop μ-loop
 loop-holds c =
     let p = c .before .before .before .before .before .before .before .before .pre in
-    search-starts _ _ _ _ _ (p .1) _ _ (c .before .root-of .ensures) (c .before .before .key-of .ensures)
+    (search-starts _ _ _ _ _ (p .1) _ _ (c .before .root-of .ensures) (c .before .before .key-of .ensures), omega arith)
 
 are-same-requires : tie.Need-are-same-requires Inv-loop μ-loop
 are-same-requires c κs =
@@ -47,36 +48,34 @@ returns : tie.Need-returns Inv-loop μ-loop
 returns c =
     let p = c .before .before .before .before .before .before .before .before .before .before .before .before .pre in
     let l = c .before .before .before .loop in
-    search-finds _ _ _ _ _ (p .1) _ _ _ (l .inv) (c .before .before .loop-test .taken) (sym (c .before .are-same .ensures) ∙ c .if1 .taken)
-
--- of an entry that is too far nothing is told
-returns-2 : tie.Need-returns-2 Inv-loop μ-loop
-returns-2 c = tt
+    search-finds _ _ _ _ _ (p .1) _ _ _ (l .inv .0) (c .before .before .loop-test .taken) (sym (c .before .are-same .ensures) ∙ c .if1 .taken)
 
 cast-link-2 : tie.Need-cast-link-2 Inv-loop μ-loop
 cast-link-2 c =
-    let o = c .before .before .before .before .before .before .before .before .before .before .before .before .before .before in
-    let l = c .before .before .before .before .before .loop in
+    let o = c .before .before .before .before .before .before .before .before .before .before .before .before .before in
+    let l = c .before .before .before .before .loop in
     omega (arith, o .pre .1 .known (onward (o .args .roots) (l .link - 1) (l .bits)))
 
 loop-less : tie.Need-loop-less Inv-loop μ-loop
 loop-less c =
-    let p = c .before .before .before .before .before .before .before .before .before .before .before .before .before .before .pre in
-    let l = c .before .before .before .before .before .loop in
-    omega (arith, search-rises _ _ _ _ _ (p .1) _ _ _ (l .inv) (c .before .before .before .before .loop-test .taken))
+    let p = c .before .before .before .before .before .before .before .before .before .before .before .before .before .pre in
+    let l = c .before .before .before .before .loop in
+    omega (arith, search-rises _ _ _ _ _ (p .1) _ _ _ (l .inv .0) (c .before .before .before .loop-test .taken))
 
 loop-again : tie.Need-loop-again Inv-loop μ-loop
 loop-again c =
-    let p = c .before .before .before .before .before .before .before .before .before .before .before .before .before .before .pre in
-    let l = c .before .before .before .before .before .loop in
-    search-steps _ _ _ _ _ (p .1) _ _ _ (l .inv) (c .before .before .before .before .loop-test .taken)
-    (sym (c .before .before .before .are-same .ensures) ∙ c .before .before .if1 .left)
+    let p = c .before .before .before .before .before .before .before .before .before .before .before .before .before .pre in
+    let l = c .before .before .before .before .loop in
+    let some = c .before .before .before .loop-test .taken in (
+      search-steps _ _ _ _ _ (p .1) _ _ _ (l .inv .0) some (sym (c .before .before .are-same .ensures) ∙ c .before .if1 .left),
+      omega (arith, search-rises _ _ _ _ _ (p .1) _ _ _ (l .inv .0) some, l .inv .1),
+    )
 
-returns-3 : tie.Need-returns-3 Inv-loop μ-loop
-returns-3 c =
+returns-2 : tie.Need-returns-2 Inv-loop μ-loop
+returns-2 c =
     let p = c .before .before .before .before .before .before .before .before .before .before .pre in
     let l = c .before .loop in
-    (search-ends _ _ _ _ _ (p .1) _ _ _ (l .inv) (omega arith), search-writes _ _ _ _ _ (p .1) _ _ _ (l .inv) (omega arith) (p .0 .in-heads))
+    (search-ends _ _ _ _ _ (p .1) _ _ _ (l .inv .0) (omega arith), search-writes _ _ _ _ _ (p .1) _ _ _ (l .inv .0) (omega arith) (p .0 .in-heads))
 
 pub take-in-spec : {M : Type 1} → statement M
 take-in-spec =
@@ -97,7 +96,6 @@ take-in-spec =
     (λ c. omega arith)
     are-same-requires
     returns
-    returns-2
     (λ c. omega arith)
     (λ c. omega arith)
     (λ c. omega arith)
@@ -112,4 +110,4 @@ take-in-spec =
     (λ c. omega arith)
     (λ c. omega arith)
     (λ c. search needs)
-    returns-3)
+    returns-2)
