@@ -34,14 +34,18 @@ take-in-requires c κs =
     (record { in-heads = omega arith; in-seconds = omega (arith, p) }, c .before .before .loop .inv .2)
 
 same-length : tie.Need-same-length Inv-loop μ-loop
-same-length c = c .before .before .before .before .before .before .take-in .kept .1 .1 .0 ∙ c .before .before .before .before .before .before .before .before .before .loop .inv .1
+same-length c =
+    let l = c .before .before .before .before .before .before .before .before .before .loop in
+    c .before .before .before .before .before .before .take-in .kept .1 .1 .0 ∙ l .inv .1
 
 -- a search that is given up has no answer
 returns : tie.Need-returns Inv-loop μ-loop
 returns c = tt
 
 same-length-2 : tie.Need-same-length-2 Inv-loop μ-loop
-same-length-2 c = c .before .before .before .before .take-in .kept .1 .1 .0 ∙ c .before .before .before .before .before .before .before .loop .inv .1
+same-length-2 c =
+    let l = c .before .before .before .before .before .before .before .loop in
+    c .before .before .before .before .take-in .kept .1 .1 .0 ∙ l .inv .1
 
 returns-2 : tie.Need-returns-2 Inv-loop μ-loop
 returns-2 c =

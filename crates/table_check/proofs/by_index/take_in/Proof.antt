@@ -1,11 +1,13 @@
 -- `table_check::by_index::take_in` meets its contract. The loop's invariant: an earlier entry that is the same as i is
--- met from the slot that the search has come to. The measure falls since links rise along a path. Assumes nothing.
+-- met from the slot that the search has come to, and no more entries were passed than this slot's number. The measure
+-- falls since links rise along a path. Assumes nothing.
 use Prim.Native.Nat.{_+_, _*_, _-_, _≤_}
 use native.Mathlib.Omega.{arith}
 use mathlib.Core.Path.{sym, _∙_}
 use borrow.Author.Needs.{needs}
 use Rattle.table_check.specs.Index.{onward}
-use Rattle.table_check.proofs.Search.{Searched, search-starts, search-rises, search-steps, search-finds, search-ends, search-writes}
+use Rattle.table_check.proofs.Search.{Searched, search-starts, search-rises, search-steps, search-finds}
+use Rattle.table_check.proofs.Search.{search-ends, search-writes}
 use Rattle.table_check.proofs.by_index.take_in.Statement.{statement}
 use Rattle.table_check.proofs.by_index.take_in.Tie as tie
 
@@ -37,7 +39,8 @@ cast-link c =
 loop-holds : tie.Need-loop-holds Inv-loop μ-loop
 loop-holds c =
     let p = c .before .before .before .before .before .before .before .before .pre in
-    (search-starts _ _ _ _ _ (p .1) _ _ (c .before .root-of .ensures) (c .before .before .key-of .ensures), omega arith)
+    let start = search-starts _ _ _ _ _ (p .1) _ _ (c .before .root-of .ensures) (c .before .before .key-of .ensures) in
+    (start, omega arith)
 
 are-same-requires : tie.Need-are-same-requires Inv-loop μ-loop
 are-same-requires c κs =
@@ -48,7 +51,8 @@ returns : tie.Need-returns Inv-loop μ-loop
 returns c =
     let p = c .before .before .before .before .before .before .before .before .before .before .before .before .pre in
     let l = c .before .before .before .loop in
-    search-finds _ _ _ _ _ (p .1) _ _ _ (l .inv .0) (c .before .before .loop-test .taken) (sym (c .before .are-same .ensures) ∙ c .if1 .taken)
+    search-finds _ _ _ _ _ (p .1) _ _ _ (l .inv .0) (c .before .before .loop-test .taken)
+    (sym (c .before .are-same .ensures) ∙ c .if1 .taken)
 
 cast-link-2 : tie.Need-cast-link-2 Inv-loop μ-loop
 cast-link-2 c =
@@ -67,7 +71,8 @@ loop-again c =
     let p = c .before .before .before .before .before .before .before .before .before .before .before .before .before .pre in
     let l = c .before .before .before .before .loop in
     let some = c .before .before .before .loop-test .taken in (
-      search-steps _ _ _ _ _ (p .1) _ _ _ (l .inv .0) some (sym (c .before .before .are-same .ensures) ∙ c .before .if1 .left),
+      search-steps _ _ _ _ _ (p .1) _ _ _ (l .inv .0) some
+          (sym (c .before .before .are-same .ensures) ∙ c .before .if1 .left),
       omega (arith, search-rises _ _ _ _ _ (p .1) _ _ _ (l .inv .0) some, l .inv .1),
     )
 
@@ -75,7 +80,8 @@ returns-2 : tie.Need-returns-2 Inv-loop μ-loop
 returns-2 c =
     let p = c .before .before .before .before .before .before .before .before .before .before .pre in
     let l = c .before .loop in
-    (search-ends _ _ _ _ _ (p .1) _ _ _ (l .inv .0) (omega arith), search-writes _ _ _ _ _ (p .1) _ _ _ (l .inv .0) (omega arith) (p .0 .in-heads))
+    let none = search-ends _ _ _ _ _ (p .1) _ _ _ (l .inv .0) (omega arith) in
+    (none, search-writes _ _ _ _ _ (p .1) _ _ _ (l .inv .0) (omega arith) (p .0 .in-heads))
 
 pub take-in-spec : {M : Type 1} → statement M
 take-in-spec =
