@@ -1,6 +1,6 @@
 // Test 5: no entry has the head and second of an earlier one. An index answers for most tables; where the search by a
-// large one has passed half as many entries as there are, chains by head answer, which go to each entry once. A small
-// one passes at most 32 entries for each. So the time is linear in the number of entries, whatever the table.
+// large one has passed a quarter as many entries as there are, chains by head answer, which go to each entry once. A
+// small one passes at most 32 entries for each. So the time is linear in the number of entries, whatever the table.
 ghost use mathlib.Core.Path.{_≡_};
 ghost use Rattle.table.specs.Tests.{repeatedEntry};
 ghost use Rattle.table_check.specs.Index.{Cleared};
@@ -35,21 +35,21 @@ const MOST_ROOTS: usize = 16384;
 // searches are never given up.
 const ENOUGH: usize = 32 * SOME;
 
-// The first of many entries that has the head and second of an earlier one. Half as many entries as there are may be
-// passed: a table that isn't made for it passes about an eighth as many.
+// The first of many entries that has the head and second of an earlier one. A quarter as many entries as there are may
+// be passed: a table that isn't made for it passes about an eighth as many.
 fn repeated_of_many(heads: &[u16], seconds: &[u16]) -> Place
     requires { ⌜ AfterFour (now heads) (now seconds) ⌝ }
     ensures { λ r. ⌜ r ≡ repeatedEntry (now (heads .entry)) (now (seconds .entry)) ⌝ }
 {
-    let half = heads.len() / 2;
+    let quarter = heads.len() / 4;
     if heads.len() <= MANY {
         let mut slots = [0u16; MANY_ROOTS + 2 * MANY];
-        if let Search::Ended(place) = repeated_by(heads, seconds, &mut slots, MANY_ROOTS, half) {
+        if let Search::Ended(place) = repeated_by(heads, seconds, &mut slots, MANY_ROOTS, quarter) {
             return place;
         }
     } else {
         let mut slots = [0u16; MOST_ROOTS + 2 * MOST_FORMULAS];
-        if let Search::Ended(place) = repeated_by(heads, seconds, &mut slots, MOST_ROOTS, half) {
+        if let Search::Ended(place) = repeated_by(heads, seconds, &mut slots, MOST_ROOTS, quarter) {
             return place;
         }
     }

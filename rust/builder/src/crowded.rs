@@ -8,8 +8,8 @@ use std::collections::VecDeque;
 // As crates/table_check/src/by_index.rt has it, the root of an entry is (head + second × FACTOR) ×
 // SPREAD mod 65,536, times the number of roots, over 65,536. As repeat.rt has it, a table of more
 // than 256 formulas has MANY_ROOTS where it has no more than MANY, else MOST_ROOTS; and the index is
-// given up where it passes more than half as many entries as there are. tests/crowded.rs compares
-// all this with the two.
+// given up where it has passed more than a quarter as many entries as there are. tests/crowded.rs
+// compares all this with the two.
 pub const FACTOR: u16 = 39277;
 pub const SPREAD: u16 = 40_503;
 pub const MANY: usize = 1024;
@@ -103,5 +103,5 @@ pub fn most_at_one_root(table: &[(u16, u16)]) -> usize {
 /// more than 256: each entry but the first of its root passes one or more.
 pub fn is_given_up(part: &[(u16, u16)], formulas: usize) -> bool {
     let roots = at_each_root(part, formulas).into_iter().filter(|&count| count > 0).count();
-    part.len() - roots > formulas / 2
+    part.len() - roots > formulas / 4
 }
