@@ -2,8 +2,8 @@
 //
 // The choice among the twelve rules is written three times, and this is deliberate. The compiler takes a function that
 // is called at one place into its caller, and leaves one that is called at two outside. The walk has one place for
-// truths and one for affirmations, so each has a function of its own: with one for both, the walk of a long proof takes
-// half as long again. `apply` is for callers that answer 12 in their own way.
+// truths and one for affirmations, so each has a function of its own: with one for both, the walk of a long proof took
+// two fifths longer. `apply` is for callers that answer 12 in their own way.
 ghost use mathlib.Core.Path.{_≡_};
 ghost use lib.ListN.{length, getD};
 ghost use lib.Dec.{ltb};

@@ -59,7 +59,7 @@ module _ (heads seconds : List ℕ) where
     pub rises : (p j : ℕ) → getD slots p 0 ≡ j + 1 → p < roots + 2 * j
     pub each : (k : ℕ) → k < n → Found roots slots k k
 
-  -- what is told of entry i, which was to be taken into the index
+  -- what is told of entry i, which was to be taken in; `passed` is free: it decides only when the index is given up
   abbrev pub Told : ℕ → List ℕ → ℕ → Taken → Type 0
   Told roots slots i (In passed) = (isRepeated i ≡ false) × Indexed roots slots (i + 1)
   Told roots slots i Repeated = isRepeated i ≡ true
