@@ -1216,24 +1216,7 @@ pub +affirmation+truth-spec : {M : Type 1} → statement M
     (λ c κs. search needs)
     (λ c. search needs)
     (affirmation-returns-9 t))
-    λ t. truth-lts.spec (
-      refused-reads.Asked,
-      refused-reads.Learnt,
-      open-truth-reads.Asked,
-      open-truth-reads.Learnt,
-      proved-reads.Asked,
-      proved-reads.Learnt,
-      onward-reads.Asked,
-      onward-reads.Learnt,
-      hold-reads.Asked,
-      hold-reads.Learnt,
-      truth-below t,
-      truth.Post,
-      release-reads.Asked,
-      release-reads.Learnt,
-      affirmation-below t,
-      affirmation.Post,
-    )
+    λ t. truth-lts.spec (truth-claims t)
     (truth-at t)
     truth.Post
     truth-Inv-loop
