@@ -1,5 +1,6 @@
 -- The laws behind the code.
-pub mod ArrayTests
+pub mod PartTests
+pub mod RoomTest
 pub mod StepTest
 pub mod Contents
 pub mod Slices

@@ -7,15 +7,9 @@ use lib.ListN.{length, take, drop}
 use Rattle.basics.specs.Written.{written}
 use Rattle.file.specs.Words.{fileWords}
 use Rattle.file.proofs.LayoutLaws.{slice-part, slice-within}
-use Rattle.table.specs.Tests.{SizedTable}
 use Rattle.record.specs.Layout.{recordLayout, formulas, statementCount, stepCount, heads, seconds, statements, steps}
 use Rattle.record.specs.Proof.{Sized}
 use Rattle.record.proofs.LayoutIs.{sized}
-use Rattle.record.proofs.Lengths.{sized-table}
-
--- The table has a size that 2 allows.
-pub table-sized : (file : List ℕ) → Sized file → {hs ss : List ℕ} → hs ≡ heads file → ss ≡ seconds file → SizedTable hs ss
-table-sized file s eh es = rw eh (rw es (sized-table file s))
 
 -- By the sizes that the code read: from one place to the next, the last of them within the words.
 pub record Slices (file words : List ℕ) (F S N : ℕ) : Type 0 where

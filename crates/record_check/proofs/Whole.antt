@@ -1,15 +1,17 @@
 -- The parts of the check are `recordAnswer`, and what it leaves in the list is `ListAfter`. Assumes nothing.
 use Prim.Native.Nat.{ℕ}
+use native.Mathlib.Omega.{arith}
+use mathlib.Core.Bool.{true, not}
 use mathlib.Core.Path.{_≡_, sym, ap, _∙_}
 use mathlib.Core.List.{List, [], _∷_, _++_}
 use lib.ListN.{length, drop}
 use Rattle.basics.specs.declared.tested.Tested.{Tested}
 use Rattle.basics.specs.declared.tested.Tested.the-variants as Outcome
 use Rattle.basics.specs.Refusals.{Test, firstRefusal, unlessRefused}
-use Rattle.basics.proofs.Refusals.{joined-refused, joined-passed}
+use Rattle.basics.proofs.Refusals.{goes-on-at-0, joined-refused, joined-passed}
 use Rattle.basics.proofs.Written.{written-fits}
 use Rattle.file.specs.Layout.{layoutTests}
-use Rattle.file.proofs.LayoutLaws.{passed-to-three}
+use Rattle.file.proofs.LayoutLaws.{passed-to-three, parts-whole}
 use Rattle.signers.proofs.Each.{signers-are}
 use Rattle.record.specs.declared.verdict.RecordVerdict.{RecordVerdict}
 use Rattle.record.specs.declared.verdict.RecordVerdict.the-variants.{Granted, Refused}
@@ -18,10 +20,11 @@ use Rattle.record.specs.Answer.{tests, recordAnswer}
 use Rattle.record.specs.ListAfter.{ListAfter}
 use Rattle.record.specs.Proof.{Sized}
 use Rattle.record.proofs.LayoutIs.{sized}
-use Rattle.record.proofs.Lengths.{length-heads}
+use Rattle.record.proofs.Lengths.{length-heads, length-seconds}
 use Rattle.record.proofs.Granted.{granted-exactly}
 use Rattle.record.proofs.Answered.{answer-refused}
-use Rattle.record_check.specs.Parts.{arrayTests, stepTest, arraysAnswer, listWritten}
+use Rattle.record_check.specs.Parts.{sizesFit, partTests, roomTest, stepTest, arraysAnswer, listWritten}
+use Rattle.record_check.proofs.PartTests.{sizes-fit-exactly}
 
 module _ (file : List ℕ) where
   -- ---- 1 to 3
@@ -39,19 +42,36 @@ module _ (file : List ℕ) where
   pub layout-passed : {t : Tested} → t ≡ firstRefusal (layoutTests recordLayout file) → t ≡ Outcome.Passed → Sized file
   layout-passed answered e = sized file .0 (passed-to-three recordLayout file .0 (sym answered ∙ e))
 
-  -- ---- 4 to 15
+  -- ---- 2 and 4 to 15
 
   module _ (s : Sized file) where
-    -- 4 to 15 are left of the tests
+    -- the arrays have the sizes that 2 allows
+    sizes-fit : sizesFit (heads file) (seconds file) (statements file) ≡ true
+    sizes-fit =
+        let r = s .in-range in
+        let F = length-heads file s in
+        let S = parts-whole recordLayout file (sized file .1 s) 2 in
+        sizes-fit-exactly (heads file) (seconds file) (statements file) .1
+        record {
+          alike = F ∙ sym (length-seconds file s);
+          some-formulas = omega (arith, F, r .some-formulas);
+          few-formulas = omega (arith, F, r .few-formulas);
+          few-statements = omega (arith, S, r .few-statements);
+        }
+
+    -- so 4 to 15 are left of the tests
     tests-from-4 :
         (room : ℕ)
         → firstRefusal
-        (arrayTests (heads file) (seconds file) (statements file) (goal file) room
-        ++ (stepTest (heads file) (seconds file) (statements file) (goal file) (steps file) ∷ []))
+        (partTests (heads file) (seconds file) (statements file) (goal file)
+        ++ (roomTest (heads file) (seconds file) (statements file) room
+        ∷ stepTest (heads file) (seconds file) (statements file) (goal file) (steps file)
+        ∷ []))
         ≡ firstRefusal (tests file room)
     tests-from-4 room =
         let passed = passed-to-three recordLayout file .1 (sized file .1 s) in
-        rw (length-heads file s) (sym (joined-passed (layoutTests recordLayout file) (from-4 room) passed))
+        goes-on-at-0 2 _ (ap not sizes-fit)
+        ∙ rw (length-heads file s) (sym (joined-passed (layoutTests recordLayout file) (from-4 room) passed))
 
     answers : (room : ℕ) → arraysAnswer (heads file) (seconds file) (statements file) (goal file) (steps file) room ≡ recordAnswer file room
     unfolding recordAnswer

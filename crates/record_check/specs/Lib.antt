@@ -1,2 +1,2 @@
--- What the private functions of the record check answer: the parts of `recordAnswer` (record/specs/Answer.antt).
+-- What the functions of the record check answer over arrays: the parts of `recordAnswer` (record/specs/Answer.antt).
 pub mod Parts

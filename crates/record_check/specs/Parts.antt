@@ -1,13 +1,18 @@
--- What the parts of the check answer, over a file's arrays: 4 to 8, 9 to 15, and both. With 1 to 3 they are
--- `recordAnswer`. Assumes nothing.
-use Prim.Native.Nat.{ℕ}
+-- What the parts of the check answer, over arrays of any length: 2 and 4 to 7, 8, 9 to 15, and all of them in order.
+-- Over the arrays of a file that 1 to 3 let pass this is `recordAnswer`. Assumes nothing.
+use Prim.Native.Nat.{ℕ, _≤_}
+use mathlib.Core.Bool.{Bool, true, not}
+use mathlib.Core.Path.{_≡_}
+use mathlib.Core.Logic.{_↔_}
 use mathlib.Core.List.{List, [], _∷_, _++_}
 use lib.ListN.{length}
 use lib.Dec.{ltb, leb}
+use Rattle.basics.specs.Choice.{both}
+use Rattle.basics.specs.Limits.{mostFormulas, mostStatements}
 use Rattle.basics.specs.Refusals.{Test, test, at0, firstRefusal, unlessRefused}
 use Rattle.basics.specs.Written.{written}
 use Rattle.file.specs.Outside.{outside}
-use Rattle.table.specs.Tests.{entries, entryTests}
+use Rattle.table.specs.Tests.{entries, sized, entryTests}
 use Rattle.steps.specs.Obligation.{obligation}
 use Rattle.steps.specs.Run.{walked}
 use Rattle.steps.specs.Figure1.{run}
@@ -15,30 +20,58 @@ use Rattle.signers.specs.Signers.{signers}
 use Rattle.record.specs.declared.verdict.RecordVerdict.{RecordVerdict}
 use Rattle.record.specs.declared.verdict.RecordVerdict.the-variants.{Granted, Refused}
 
--- 4 to 8, for a table of F entries
-abbrev pub arrayTests : List ℕ → List ℕ → List ℕ → ℕ → ℕ → List Test
-arrayTests heads seconds statements goal room =
-    entryTests heads seconds
+-- "2. F, S or N is outside its range (place 0)." (01) This is asked of F and S. "A table lent as two arrays of unlike
+-- length meets 2."
+abbrev pub sizesFit : List ℕ → List ℕ → List ℕ → Bool
+sizesFit heads seconds statements = both (sized heads seconds) (leb (length statements) mostStatements)
+
+-- "F formulas (1 to 4,096), S statements (0 to 256)"
+pub record SizesFit (heads seconds statements : List ℕ) : Type 0 where
+  pub alike : length heads ≡ length seconds
+  pub some-formulas : 1 ≤ length heads
+  pub few-formulas : length heads ≤ mostFormulas
+  pub few-statements : length statements ≤ mostStatements
+
+-- This is what 2 asks. Proved in proofs/PartTests.antt.
+abbrev pub SizesFitExactly : Type 0
+SizesFitExactly =
+    (heads seconds statements : List ℕ)
+    → sizesFit heads seconds statements ≡ true ↔ SizesFit heads seconds statements
+
+-- 2 and 4 to 7. "6. The goal's number is F or more (place 0)." "7. A statement's number is F or more (place: the first
+-- such position)."
+abbrev pub partTests : List ℕ → List ℕ → List ℕ → ℕ → List Test
+partTests heads seconds statements goal =
+    test 2 (at0 (not (sizesFit heads seconds statements)))
+    ∷ (entryTests heads seconds
     ++ (test 6 (at0 (leb (length heads) goal))
     ∷ test 7 (outside (length heads) statements)
-    ∷ test 8 (at0 (ltb room (length (signers (entries heads seconds) statements))))
-    ∷ [])
+    ∷ []))
+
+-- "8. The lent list is shorter than the number of signers (place 0)."
+abbrev pub roomTest : List ℕ → List ℕ → List ℕ → ℕ → Test
+roomTest heads seconds statements room = test 8 (at0 (ltb room (length (signers (entries heads seconds) statements))))
 
 -- 9 to 15: the goal is to be proved from the statements
 abbrev pub stepTest : List ℕ → List ℕ → List ℕ → ℕ → List ℕ → Test
-stepTest heads seconds statements goal steps = walked (run (entries heads seconds) steps (obligation statements goal ∷ []))
+stepTest heads seconds statements goal steps =
+    walked (run (entries heads seconds) steps (obligation statements goal ∷ []))
 
 -- where no test refuses: granted, with the number of signers
 abbrev pub granted : List ℕ → List ℕ → List ℕ → RecordVerdict
 granted heads seconds statements = Granted (length (signers (entries heads seconds) statements))
 
--- 4 to 15, over arrays of a size that 2 allows
+-- 2 and 4 to 15
 abbrev pub arraysAnswer : List ℕ → List ℕ → List ℕ → ℕ → List ℕ → ℕ → RecordVerdict
 arraysAnswer heads seconds statements goal steps room =
-    unlessRefused Refused (firstRefusal (arrayTests heads seconds statements goal room ++ (stepTest heads seconds statements goal steps ∷ [])))
+    unlessRefused Refused
+    (firstRefusal
+    (partTests heads seconds statements goal
+    ++ (roomTest heads seconds statements room ∷ stepTest heads seconds statements goal steps ∷ [])))
     (granted heads seconds statements)
 
 -- what is then in the lent list
 abbrev pub listWritten : RecordVerdict → List ℕ → List ℕ → List ℕ → List ℕ → List ℕ
-listWritten (Granted count) heads seconds statements before = written before (signers (entries heads seconds) statements)
+listWritten (Granted count) heads seconds statements before =
+    written before (signers (entries heads seconds) statements)
 listWritten (Refused number place) heads seconds statements before = before

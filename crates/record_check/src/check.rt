@@ -2,15 +2,15 @@
 ghost use Prim.Native.Nat.{_*_, _≤_};
 ghost use mathlib.Core.Path.{_≡_};
 ghost use lib.ListN.{length};
-ghost use Rattle.table.specs.Tests.{SizedTable};
 ghost use Rattle.record.specs.Answer.{recordAnswer};
 ghost use Rattle.record.specs.ListAfter.{ListAfter};
 ghost use Rattle.record.specs.Proof.{Sized};
 ghost use Rattle.record_check.specs.Parts.{granted, arraysAnswer, listWritten};
-use crate::arrays::check_arrays;
+use crate::judge::judge_parts;
+use crate::judge::judge_room;
+use crate::judge::judge_steps;
 use crate::layout::MOST_WORDS;
 use crate::layout::check_layout;
-use crate::step_tests::check_steps;
 use basics::tested::Tested;
 use file::words::FEW_WORDS;
 use file::words::FEWEST_WORDS;
@@ -28,7 +28,7 @@ fn grant(heads: &[u16], seconds: &[u16], statements: &[u16], signers: &mut [u16]
     RecordVerdict::Granted(write_signers(heads, seconds, statements, signers))
 }
 
-// 4 to 15, and the signers' list: written only once all tests have passed.
+// 2 and 4 to 15, and the signers' list: written only once all tests have passed.
 fn check_contents(
     heads: &[u16],
     seconds: &[u16],
@@ -37,20 +37,21 @@ fn check_contents(
     steps: &[u16],
     signers: &mut [u16],
 ) -> RecordVerdict
-    requires { ⌜ SizedTable (now heads) (now seconds) ⌝ }
     ensures { λ r. ⌜ r ≡ arraysAnswer (now (heads .entry)) (now (seconds .entry)) (now (statements .entry)) goal (now (steps .entry)) (length (now (signers .entry))) ⌝ }
     ensures { λ r. ⌜ now (signers .exit) ≡ listWritten r (now (heads .entry)) (now (seconds .entry)) (now (statements .entry)) (now (signers .entry)) ⌝ }
 {
-    if let Tested::Refused { number, place } = check_arrays(
+    if let Tested::Refused { number, place } = judge_parts(heads, seconds, statements, goal) {
+        return RecordVerdict::Refused { number, place };
+    }
+    if let Tested::Refused { number, place } = judge_room(
         heads,
         seconds,
         statements,
-        goal,
         signers.len(),
     ) {
         return RecordVerdict::Refused { number, place };
     }
-    if let Tested::Refused { number, place } = check_steps(
+    if let Tested::Refused { number, place } = judge_steps(
         heads,
         seconds,
         statements,

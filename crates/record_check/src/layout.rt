@@ -17,8 +17,8 @@ pub(crate) const MOST_WORDS: usize = 4 + 2 * MOST_FORMULAS + MOST_STATEMENTS + M
 
 const MOST_BYTES: usize = 2 * MOST_WORDS;
 
-// Bytes for a file, one more than the longest record has, all 0: so a longer file is seen to be longer, and its answer is
-// that of the bytes here (`LongerFile`).
+// Bytes for a file, one more than the longest record has, all 0: so a longer file is seen to be longer, and its answer
+// is that of the bytes here (`LongerFile`).
 pub fn file_buffer() -> [u8; MOST_BYTES + 1]
     ensures { λ r. ⌜ r ≡ replicate (suc mostBytes) 0 ⌝ }
 {

@@ -2,7 +2,7 @@
 -- file. Assumes nothing.
 use native.Mathlib.Omega.{arith}
 use borrow.Author.Needs.{needs}
-use Rattle.record_check.proofs.Slices.{table-sized, Slices, slices}
+use Rattle.record_check.proofs.Slices.{Slices, slices}
 use Rattle.record_check.proofs.Whole.{whole}
 use Rattle.record_check.proofs.check.check_sized.Statement.{statement}
 use Rattle.record_check.proofs.check.check_sized.Tie as tie
@@ -29,13 +29,6 @@ end-3 c = let e = parts (c .before .before .before) .end-within in omega arith
 
 end-4 : tie.Need-part-check-contents-end-4
 end-4 c = let e = parts (c .before .before .before .before .before) .end-within in omega arith
-
-check-contents-requires : tie.Need-check-contents-requires
-check-contents-requires c κs =
-    let z = c .before .before .before .before .before .before .before in
-    let start = z .before .before .before .before .before .before .before .before .before .before in
-    let k = parts z in
-    table-sized (start .args .file .now) (start .pre .0) (k .heads-slice) (k .seconds-slice)
 
 returns : tie.Need-returns
 returns c =
@@ -78,7 +71,7 @@ check-sized-spec =
     (λ c. search needs)
     (λ c. search needs)
     end-4
-    check-contents-requires
+    (λ c κs. search needs)
     (λ c. search needs)
     (λ c. search needs)
     returns)
