@@ -2,6 +2,7 @@
 -- test asks.
 pub mod Choice
 pub mod Membership
+pub mod Rising
 pub mod First
 pub mod Asked
 pub mod Refusals

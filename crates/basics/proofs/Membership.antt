@@ -92,7 +92,7 @@ holds-member (m ∷ ms) n =
     ))
 
 -- Which of two tests comes first makes no difference.
-either : (a b c : Bool) → pick a true (pick b true c) ≡ pick b true (pick a true c)
+pub either : (a b c : Bool) → pick a true (pick b true c) ≡ pick b true (pick a true c)
 either true true c = refl
 either true false c = refl
 either false b c = refl

@@ -3,10 +3,12 @@
 use Prim.Native.Nat.{ℕ, zero, suc, _+_, _≤_, _<_}
 use native.Mathlib.Nat.{zero-add, suc-add, le-of-suc-le-suc}
 use native.Mathlib.Omega.{arith}
+use native.Mathlib.Decide.{decLt}
+use native.Mathlib.Numerals.{add-one}
 use mathlib.Core.Path.{_≡_, refl, sym, ap, _∙_}
 use mathlib.Core.List.{List, [], _∷_, _++_}
-use lib.ListN.{length, take, drop, set, length-drop, take-append-drop}
-use lib.Seq.{take-append-le, drop-append-le}
+use lib.ListN.{length, getD, take, drop, set, length-drop, take-append-drop}
+use lib.Seq.{take-append-le, drop-append-le, take-suc, length-take-le, set-out}
 use Rattle.basics.specs.Written.{written, writtenAt, WrittenFits, WrittenLength, WrittenJoined}
 
 pub written-fits : WrittenFits
@@ -41,6 +43,27 @@ unfolding written
 written-full [] new more l = refl
 written-full (o ∷ old) [] more l = absurd (omega arith)
 written-full (o ∷ old) (n ∷ new) more l = ap (λ (r : List ℕ). n ∷ r) (written-full old new more (le-of-suc-le-suc l))
+
+-- So a store there is one word more, wherever there is room for it.
+pub written-store : (old new : List ℕ) (x : ℕ) → set (written old new) (length new) x ≡ written old (new ++ (x ∷ []))
+written-store old new x = by (decLt (length new) (length old))
+  where
+    by : Dec (length new < length old) → set (written old new) (length new) x ≡ written old (new ++ (x ∷ []))
+    by (yes l) = written-more old new x l
+    by (no m) =
+        let full : length old ≤ length new = omega arith in
+        set-out (written old new) (length new) x (rw written-length full) ∙ sym (written-full old new (x ∷ []) full)
+
+-- The first i words of a text, and the next.
+pub written-next : (old new : List ℕ) (i : ℕ) → i < length new
+    → set (written old (take i new)) i (getD new i 0) ≡ written old (take (i + 1) new)
+written-next old new i l =
+    let at : length (take i new) ≡ i = length-take-le i new (omega arith) in
+    let next : take i new ++ (getD new i 0 ∷ []) ≡ take (i + 1) new =
+    sym (ap (λ (n : ℕ). take n new) (add-one i) ∙ take-suc new i 0 l) in
+    ap (λ (n : ℕ). set (written old (take i new)) n (getD new i 0)) (sym at)
+    ∙ written-store old (take i new) (getD new i 0)
+    ∙ ap (written old) next
 
 -- A text, and then another over what follows it.
 written-append : (old xs ys : List ℕ) → length xs ≤ length old

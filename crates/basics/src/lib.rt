@@ -1,6 +1,7 @@
 // The types that every check answers with, the limits of 01, and words that hold two numbers. Definitions are in
 // specs/.
 pub mod limits;
+pub mod list;
 pub mod place;
 pub mod tested;
 pub mod word;

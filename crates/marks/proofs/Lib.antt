@@ -1,0 +1,2 @@
+-- The theorems of specs/, and the laws behind the code.
+pub mod Marked
