@@ -4,8 +4,6 @@ use native.Mathlib.Omega.{arith}
 use mathlib.Core.Path.{_≡_, refl, sym, _∙_}
 use mathlib.Core.Logic.{_↔_, _⊎_, inl, inr}
 use mathlib.Core.List.{List}
-use Rattle.basics.specs.Limits.{mostStatements}
-use Rattle.record.specs.Answer.{recordAnswer}
 use Rattle.exchange.specs.declared.verdict.ExchangeVerdict.{ExchangeVerdict}
 use Rattle.exchange.specs.declared.verdict.ExchangeVerdict.the-variants.{Equal, Refused}
 use Rattle.exchange.specs.Answer.{exchangeAnswer}
@@ -14,7 +12,7 @@ use Rattle.exchange.proofs.Force.{force-by-statements, goal-kept}
 use Rattle.exchange.proofs.Equal.{equal-exactly, equal-only-in-force}
 use Rattle.exchange.proofs.Reasons.{refused-exactly}
 use Rattle.exchange.proofs.Kept.{never-six-or-eight}
-use Rattle.line.proofs.Printed.{whole-line, whole-exchange-line}
+use Rattle.line.proofs.Printed.{line-of-call, whole-line, whole-exchange-line}
 use Rattle.demands.specs.Demands.{Demands, FirstOfExchange}
 use Rattle.demands.proofs.Release as Release
 use Rattle.demands.proofs.OldReleases.{kept-by-force, kept-by-exchange, old-releases-kept}
@@ -37,13 +35,8 @@ demands = record {
   never-both = Release.never-both;
   one-first = Release.one-first;
   nothing-else = Release.nothing-else;
-  printed = λ file line count after printed room. (
-    recordAnswer file mostStatements,
-    printed .list,
-    refl,
-    printed .list-after,
-    whole-line file line count after printed room,
-  );
+  printed = whole-line;
+  printed-of-call = line-of-call;
   force-by-statements = force-by-statements;
   equal-exactly = λ file answer is. same-answer file is (equal-exactly file);
   equal-only-in-force = equal-only-in-force;

@@ -1,19 +1,19 @@
 -- Demands 1 and 2 for a call on a record (specs/Release.antt and Demands.antt). In order: a release is what `GrantSays`
 -- of `record` says, over propositions; a file is a release or has a first reason; what a call answers and leaves.
 -- Assumes nothing.
-use Prim.Native.Nat.{ℕ}
+use Prim.Native.Nat.{ℕ, _≤_}
 use native.Mathlib.Omega.{arith}
-use mathlib.Core.Path.{_≡_, refl, sym, ap, subst, _∙_}
+use mathlib.Core.Path.{_≡_, refl, sym, subst, _∙_}
 use mathlib.Core.Logic.{Iff·trans, _⊎_, inl, inr}
-use mathlib.Core.List.{List, _++_}
-use lib.ListN.{length, drop}
+use mathlib.Core.List.{List}
+use lib.ListN.{length}
 use Rattle.signers.specs.Each.{AreSigners}
-use Rattle.signers.proofs.Each.{signers-are, one-count, signs-spelled}
+use Rattle.signers.proofs.Each.{signers-are, one-list, signs-spelled}
 use Rattle.record.specs.declared.verdict.RecordVerdict.{RecordVerdict}
 use Rattle.record.specs.declared.verdict.RecordVerdict.the-variants.{Granted, Refused}
 use Rattle.record.specs.Layout.{table, statements, signers}
 use Rattle.record.specs.Answer.{recordAnswer}
-use Rattle.record.specs.ListAfter.{ListAfter}
+use Rattle.record.specs.ListAfter.{listAfter}
 use Rattle.record.specs.Proof.{Keeps}
 use Rattle.record.specs.Promises.{GrantSays}
 use Rattle.record.proofs.Granted.{granted-exactly}
@@ -27,13 +27,13 @@ module _ {file : List ℕ} (keeps : Keeps file) {names : List ℕ} where
   spelled : AreSigners (table file) (statements file) names → Signers file names
   spelled are = record {
     each = λ K. Iff·trans (are .each K) (signs-spelled (table file) (keeps .ordered) (statements file) K);
-    once = are .once;
+    rising = are .rising;
   }
 
   entered : Signers file names → AreSigners (table file) (statements file) names
   entered are = record {
     each = λ K. let (to, from) = signs-spelled (table file) (keeps .ordered) (statements file) K in Iff·trans (are .each K) (from, to);
-    once = are .once;
+    rising = are .rising;
   }
 
 module _ (file : List ℕ) (room : ℕ) where
@@ -51,8 +51,8 @@ module _ (file : List ℕ) (room : ℕ) where
     keeps = r .keeps;
     is-proof = r .is-proof;
     fits =
-        let same = one-count (table file) (statements file) (r .names) (entered (r .keeps) (r .signers)) in
-        let l = r .fits in omega arith;
+        let same = one-list (table file) (statements file) (r .names) (entered (r .keeps) (r .signers)) in
+        subst (λ names. length names ≤ room) same (r .fits);
     counted = refl;
   }
 
@@ -87,22 +87,22 @@ module _ (file : List ℕ) (room : ℕ) where
 
 module _ (file before after : List ℕ) where
   -- what is written where the answer is a grant
-  granted-list : (count : ℕ) → Keeps file → ListAfter file (Granted count) before after → GrantedWithSigners file (Granted count) before after
-  granted-list count keeps l = record {
-    names = l .names;
-    signers = spelled keeps (l .are-signers);
-    granted = ap Granted (l .counted);
-    written = l .after-is ∙ ap (λ n. l .names ++ drop n before) (l .counted);
+  granted-list : Keeps file → after ≡ listAfter file (Granted (length (signers file))) before
+      → GrantedWithSigners file (Granted (length (signers file))) before after
+  granted-list keeps l = record {
+    names = signers file;
+    signers = spelled keeps (signers-are (table file) (statements file));
+    granted = refl;
+    written = l;
   }
 
-  pub granted : (answer : RecordVerdict) → answer ≡ recordAnswer file (length before) → ListAfter file answer before after
+  pub granted : (answer : RecordVerdict) → answer ≡ recordAnswer file (length before) → after ≡ listAfter file answer before
       → Release file (length before) → GrantedWithSigners file answer before after
   granted answer e l r =
       let is : answer ≡ Granted (length (signers file)) = e ∙ granted-exactly file (length before) _ .1 (releases file (length before) r) in
-      subst (λ v. ListAfter file v before after → GrantedWithSigners file v before after) (sym is)
-      (granted-list (length (signers file)) (r .keeps)) l
+      subst (λ v. after ≡ listAfter file v before → GrantedWithSigners file v before after) (sym is) (granted-list (r .keeps)) l
 
-  pub refused : (answer : RecordVerdict) → answer ≡ recordAnswer file (length before) → ListAfter file answer before after
+  pub refused : (answer : RecordVerdict) → answer ≡ recordAnswer file (length before) → after ≡ listAfter file answer before
       → ¬ Release file (length before) → RefusedUntouched file answer before after
   refused (Granted count) e l none = absurd (none (of-grant file (length before) (sym e)))
   refused (Refused number p) e l none = record {

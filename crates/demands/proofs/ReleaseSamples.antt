@@ -1,10 +1,12 @@
 -- A's grant and C's refusal (specs/Release.antt). Assumes nothing.
 use Prim.Native.Nat.{ℕ}
 use mathlib.Core.Path.{_≡_, refl, sym, ap, subst, _∙_}
-use mathlib.Core.List.{List, [], _∷_, _++_, List·Memᴰ·head, List·Memᴰ·tail, List·Memᴰ·not-nil, List·Memᴰ·eq-of-singleton}
+use mathlib.Core.List.{List, [], _∷_, _++_, List·Memᴰ·head, List·Memᴰ·not-nil, List·Memᴰ·eq-of-singleton, Memᴰ·cast}
 use lib.ListN.{length, drop}
 use Rattle.basics.specs.First.{first as first-place}
 use Rattle.basics.specs.Membership.{_∈_, holds}
+use Rattle.basics.specs.Rising.{Rising, into}
+use Rattle.basics.proofs.Rising.{one-rising}
 use Rattle.basics.specs.Refusals.{firstRefusal}
 use Rattle.basics.proofs.Membership.{first}
 use Rattle.logic.specs.Proposition.{Proposition, atom, _says_}
@@ -14,8 +16,8 @@ use Rattle.table.specs.Tests.{entries, wrongEntry, repeatedEntry}
 use Rattle.table.specs.Spelled.{spelled, spelledAfter}
 use Rattle.steps.specs.Step.{opens, step}
 use Rattle.steps.specs.Run.{walk, run}
-use Rattle.signers.specs.Signers.{joinedAll, signers}
-use Rattle.signers.specs.Each.{SaysSome, EachOnce}
+use Rattle.signers.specs.Signers.{signers}
+use Rattle.signers.specs.Each.{SaysSome}
 use Rattle.record.specs.declared.verdict.RecordVerdict.the-variants.{Granted, Refused}
 use Rattle.record.specs.Layout.{table, statements}
 use Rattle.record.specs.Answer.{recordAnswer}
@@ -38,17 +40,16 @@ only-seven K s =
     let here : (K says s .said) ∈ (7 says atom 0 ∷ []) = subst (λ (l : List Proposition). (K says s .said) ∈ l) stated-by-A (s .stands) in
     let e : K says s .said ≡ 7 says atom 0 = List·Memᴰ·eq-of-singleton here in cc
 
--- A list of 7 alone, each once, has one 7.
-one-seven : (names : List ℕ) → ((K : ℕ) → K ∈ names → K ≡ 7) → 7 ∈ names → EachOnce names → names ≡ 7 ∷ []
-one-seven [] all m once = absurd (List·Memᴰ·not-nil m)
-one-seven (k ∷ []) all m once = ap (λ (n : ℕ). n ∷ []) (all k first)
-one-seven (k ∷ j ∷ ks) all m (alone, once) =
-    absurd (alone (List·Memᴰ·head (all k first ∙ sym (all j (List·Memᴰ·tail first)))))
+-- A rising list of 7 alone has one 7.
+one-seven : (names : List ℕ) → ((K : ℕ) → K ∈ names → K ≡ 7) → 7 ∈ names → Rising names → names ≡ 7 ∷ []
+one-seven names all m rising =
+    one-rising names (7 ∷ []) rising (λ n i. absurd (List·Memᴰ·not-nil i), tt)
+    (λ n. (λ i. List·Memᴰ·head (all n i), λ i. Memᴰ·cast (List·Memᴰ·eq-of-singleton i) m))
 
 pub grant-of-a : GrantOfA
 grant-of-a answer before after g =
     let each = g .signers .each in
-    let e : g .names ≡ 7 ∷ [] = one-seven (g .names) (λ K m. only-seven K (each K .0 m)) (each 7 .1 seven-says) (g .signers .once) in (
+    let e : g .names ≡ 7 ∷ [] = one-seven (g .names) (λ K m. only-seven K (each K .0 m)) (each 7 .1 seven-says) (g .signers .rising) in (
       g .granted ∙ ap (λ (l : List ℕ). Granted (length l)) e,
       g .written ∙ ap (λ (l : List ℕ). l ++ drop (length l) before) e,
     )
@@ -56,7 +57,7 @@ grant-of-a answer before after g =
 -- ---- C
 
 answer-to-C : recordAnswer (fileOf (overT (1 ∷ []) 0 (45057 ∷ []))) 1 ≡ Refused 14 0
-unfolding recordAnswer fileWords fileOf firstRefusal wrongEntry repeatedEntry first-place joinedAll signers
+unfolding recordAnswer fileWords fileOf firstRefusal wrongEntry repeatedEntry first-place into signers
     run walk step opens holds entries entry
 answer-to-C = refl
 

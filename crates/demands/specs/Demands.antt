@@ -5,17 +5,16 @@
 -- as one number (no two answers have the same: `CodeTells`, `ExchangeCodeTells`). "No entry point leaves a test to its
 -- caller": no `pub fn` has a `requires`, and the gate looks; what follows is for every file and every list. All other
 -- public functions are parts: they answer for every input, and make only their own tests.
-use Prim.Native.Nat.{ℕ, _≤_}
+use Prim.Native.Nat.{ℕ}
 use mathlib.Core.Path.{_≡_}
 use mathlib.Core.Logic.{_↔_, _⊎_}
-use mathlib.Core.List.{List, _++_}
-use lib.ListN.{length, drop, replicate}
-use Rattle.basics.specs.Limits.{mostStatements}
+use mathlib.Core.List.{List}
+use lib.ListN.{length}
 use Rattle.basics.specs.Order.{FirstReason, checkingOrder}
 use Rattle.record.specs.declared.verdict.RecordVerdict.{RecordVerdict}
 use Rattle.record.specs.declared.verdict.RecordVerdict.the-variants.{Granted}
 use Rattle.record.specs.Answer.{recordAnswer}
-use Rattle.record.specs.ListAfter.{ListAfter}
+use Rattle.record.specs.ListAfter.{listAfter}
 use Rattle.exchange.specs.declared.verdict.ExchangeVerdict.{ExchangeVerdict}
 use Rattle.exchange.specs.declared.verdict.ExchangeVerdict.the-variants as Exchange
 use Rattle.exchange.specs.Answer.{exchangeAnswer}
@@ -23,14 +22,9 @@ use Rattle.exchange.specs.Force as Force
 use Rattle.exchange.specs.Promises.{EqualOnlyInForce, NeverSixOrEight}
 use Rattle.exchange.specs.Proofs as Proofs
 use Rattle.exchange.specs.Reasons as Reasons
-use Rattle.line.specs.RecordLine.{recordLine, mostLine}
-use Rattle.line.specs.Printed.{Printed, WholeExchangeLine}
+use Rattle.line.specs.Printed.{LineOfCall, WholeLine, WholeExchangeLine}
 use Rattle.demands.specs.Release.{Release, GrantedWithSigners, First, RefusedUntouched}
 use Rattle.demands.specs.OldReleases.{KeptByForce, KeptByExchange, OldReleasesKept}
-
--- "lends a list of 256 words" (01)
-abbrev pub lent : List ℕ
-lent = replicate mostStatements 0
 
 -- The first reason of an exchange file.
 abbrev pub FirstOfExchange : List ℕ → ℕ → ℕ → Type 0
@@ -46,13 +40,13 @@ pub record Demands : Type 0 where
   -- list lent for them, is granted with its signers."
   pub granted :
       (file before after : List ℕ) (answer : RecordVerdict)
-      → answer ≡ recordAnswer file (length before) → ListAfter file answer before after
+      → answer ≡ recordAnswer file (length before) → after ≡ listAfter file answer before
       → Release file (length before) → GrantedWithSigners file answer before after
   -- "Every other file, of any bytes and length, is refused by the first reason in the fixed order that applies, with
   -- its place, and the signers' list stays untouched; no entry point leaves a test to its caller."
   pub refused :
       (file before after : List ℕ) (answer : RecordVerdict)
-      → answer ≡ recordAnswer file (length before) → ListAfter file answer before after
+      → answer ≡ recordAnswer file (length before) → after ≡ listAfter file answer before
       → ¬ Release file (length before) → RefusedUntouched file answer before after
   -- That is: whatever the list's length, a file is a release or has a first reason, never both, and never two first reasons.
   pub either : (file : List ℕ) (room : ℕ) → Release file room ⊎ ((number : ℕ) × (p : ℕ) × First file room number p)
@@ -67,11 +61,8 @@ pub record Demands : Type 0 where
       (file : List ℕ) (room count : ℕ) (answer : RecordVerdict)
       → answer ≡ recordAnswer file room → answer ≡ Granted count → Release file room
   -- What `record_line` writes, where there is room for the longest line, is the line of such a call with 256 words lent.
-  pub printed :
-      (file line : List ℕ) (count : ℕ) (after : List ℕ) → Printed file line count after → mostLine ≤ length line
-      → (answer : RecordVerdict) × (list : List ℕ)
-      × (answer ≡ recordAnswer file (length lent)) × ListAfter file answer lent list
-      × (after ≡ recordLine answer list ++ drop count line)
+  pub printed : WholeLine
+  pub printed-of-call : LineOfCall
   -- "3. Any two lists of statements over one table, of whatever length, are equal in force exactly when each statement
   -- of either list has a proof, of any size, from the other. Equal in force means that every formula, in the table or
   -- not, with a proof of any size from one list has a proof of any size from the other." (`EqualInForce` is that.)

@@ -6,9 +6,10 @@ use mathlib.Core.Logic.{_↔_}
 use mathlib.Core.List.{List, [], _∷_, _++_}
 use lib.ListN.{length, drop}
 use Rattle.basics.specs.Membership.{_∈_}
+use Rattle.basics.specs.Rising.{Rising}
 use Rattle.basics.specs.Order.{FirstReason, checkingOrder}
 use Rattle.file.specs.Words.{fileOf}
-use Rattle.signers.specs.Each.{SaysSome, EachOnce}
+use Rattle.signers.specs.Each.{SaysSome}
 use Rattle.record.specs.declared.verdict.RecordVerdict.{RecordVerdict}
 use Rattle.record.specs.declared.verdict.RecordVerdict.the-variants.{Granted, Refused}
 use Rattle.record.specs.Layout.{table, statements}
@@ -16,10 +17,10 @@ use Rattle.record.specs.Proof.{Keeps, IsProof}
 use Rattle.record.specs.Reasons.{Reason}
 use Rattle.record.specs.Samples.{overT, bytesOfA}
 
--- The signers of a record: those K of whom a statement spells K says A, each once. FREE: their order.
+-- The signers of a record: those K of whom a statement spells K says A, each once, "in rising principal number" (02).
 pub record Signers (file names : List ℕ) : Type 0 where
   pub each : (K : ℕ) → K ∈ names ↔ SaysSome (table file) (statements file) K
-  pub once : EachOnce names
+  pub rising : Rising names
 
 -- "A record that keeps the layout and its limits, whose words are a proof of its goal and whose signers fit the list
 -- lent for them"

@@ -1,19 +1,16 @@
 -- "The samples marked m form one table, proved as a whole" (01): A to H, and K. A row has the words of a file and the
--- line of its answer, a record's with 256 words lent and with its signers (A has one, so that no order is free). Proved
--- in proofs/Samples.antt, by computation. Assumes nothing.
+-- line that the program prints. Proved in proofs/Samples.antt, by computation. Assumes nothing.
 use Prim.Native.Nat.{ℕ}
 use Prim.Native.String.{String}
 use mathlib.Core.Path.{_≡_}
 use mathlib.Core.List.{List, [], _∷_, map}
 use Rattle.text.specs.Ascii.{ascii}
 use Rattle.file.specs.Words.{fileOf}
-use Rattle.record.specs.Layout.{signers}
-use Rattle.record.specs.Answer.{recordAnswer}
 use Rattle.record.specs.Samples.{overT}
 use Rattle.exchange.specs.Answer.{exchangeAnswer}
 use Rattle.exchange.specs.Samples.{K}
-use Rattle.line.specs.RecordLine.{recordLine}
 use Rattle.line.specs.ExchangeLine.{exchangeLine}
+use Rattle.line.specs.Printed.{printedLine}
 
 -- a sample by its words, and its line
 pub data File : Type 0 where
@@ -21,7 +18,7 @@ pub data File : Type 0 where
   an-exchange : List ℕ → File
 
 abbrev pub lineOf : File → List ℕ
-lineOf (a-record words) = recordLine (recordAnswer (fileOf words) 256) (signers (fileOf words))
+lineOf (a-record words) = printedLine (fileOf words)
 lineOf (an-exchange words) = exchangeLine (exchangeAnswer (fileOf words))
 
 pub record Sample : Type 0 where

@@ -6,7 +6,7 @@ ghost use mathlib.Core.Path.{_≡_};
 ghost use lib.ListN.{length};
 ghost use Rattle.basics.specs.Limits.{mostSteps};
 ghost use Rattle.record.specs.Answer.{recordAnswer};
-ghost use Rattle.record.specs.ListAfter.{ListAfter};
+ghost use Rattle.record.specs.ListAfter.{listAfter};
 ghost use Rattle.record.specs.Promises.{Small};
 ghost use Rattle.exchange.specs.Answer.{exchangeAnswer};
 ghost use Rattle.exchange.specs.Promises.{Small as ExchangeSmall};
@@ -49,12 +49,12 @@ fn exchange_code(verdict: ExchangeVerdict) -> u64
 }
 
 // The check of a record, as one number: the count of signers, or a refusal's number × 2^32 + its place. What is lent is
-// left as `check_record` leaves it: signers from the start of the list on a grant, nothing changed on a refusal. In C a
+// left as `check_record` leaves it: signers, rising, from the start of the list on a grant, nothing changed on a refusal. In C a
 // slice is a pointer and then a length.
 #[no_mangle]
 pub extern "C" fn wethrynda_check_record(file: &[u8], signers: &mut [u16]) -> u64
     ensures { λ r. ⌜ r ≡ answerCode (recordAnswer (now (file .entry)) (length (now (signers .entry)))) ⌝ }
-    ensures { λ _. ⌜ ListAfter (now (file .entry)) (recordAnswer (now (file .entry)) (length (now (signers .entry)))) (now (signers .entry)) (now (signers .exit)) ⌝ }
+    ensures { λ _. ⌜ now (signers .exit) ≡ listAfter (now (file .entry)) (recordAnswer (now (file .entry)) (length (now (signers .entry)))) (now (signers .entry)) ⌝ }
 {
     let verdict = check_record(file, signers);
     answer_code(verdict)

@@ -1,54 +1,96 @@
--- What the programs print for a file (specs/Printed.antt). Assumes nothing.
-use Prim.Native.Nat.{ℕ, zero, suc, _≤_, _<_}
+-- What the programs print for a file (specs/Printed.antt). In order: the line of a call; the line of a grant; the line
+-- written whole. Assumes nothing.
+use Prim.Native.Nat.{ℕ, _≤_, _<_}
 use native.Mathlib.Omega.{arith}
 use mathlib.Core.Bool.{Bool, true}
-use mathlib.Core.Path.{_≡_, sym, ap, subst, _∙_}
-use mathlib.Core.Logic.{⊎-elim}
-use mathlib.Core.List.{List, [], _∷_, _++_, List·Memᴰ·tail, List·Memᴰ·not-nil, List·Memᴰ·cases-cons, List·Memᴰ·append-cases}
-use lib.ListN.{length, drop, replicate}
+use mathlib.Core.Path.{_≡_, refl, sym, ap, subst, _∙_}
+use mathlib.Core.List.{List, _++_}
+use lib.ListN.{length, drop, take}
 use lib.Dec.{leb}
+use lib.Seq.{take-all, take-append-seam}
 use borrow.Author.Tests.{le-leb}
 use Rattle.basics.specs.Membership.{_∈_}
 use Rattle.basics.specs.Choice.{pick}
 use Rattle.basics.specs.Limits.{mostStatements}
 use Rattle.basics.specs.Written.{written}
 use Rattle.basics.proofs.Written.{written-fits}
+use Rattle.signers.proofs.Each.{signers-are}
 use Rattle.signers.proofs.Joined.{signers-are-principals}
 use Rattle.record.specs.declared.verdict.RecordVerdict.{RecordVerdict}
 use Rattle.record.specs.declared.verdict.RecordVerdict.the-variants.{Granted, Refused}
-use Rattle.record.specs.Layout.{heads, seconds, statements}
+use Rattle.record.specs.Layout.{heads, seconds, statements, table, signers}
 use Rattle.record.specs.Answer.{recordAnswer}
-use Rattle.record.specs.ListAfter.{ListAfter}
+use Rattle.record.specs.ListAfter.{listAfter}
+use Rattle.record.specs.Promises.{Small}
+use Rattle.record.proofs.Granted.{granted-exactly}
 use Rattle.record.proofs.Small.{answers-small}
 use Rattle.exchange.specs.Answer.{exchangeAnswer}
 use Rattle.exchange.proofs.Small.{answers-small as exchange-answers-small}
 use Rattle.line.specs.Line.{lineAfter, lineCount}
-use Rattle.line.specs.RecordLine.{recordLine}
+use Rattle.text.specs.Ascii.{ascii}
+use Rattle.text.specs.Decimal.{decimal}
+use Rattle.line.specs.RecordLine.{listed, recordLine}
 use Rattle.line.specs.ExchangeLine.{exchangeLine}
-use Rattle.line.specs.Printed.{WholeLine, WholeExchangeLine}
+use Rattle.line.specs.Printed.{LineOfCall, OneLine, LineOfGrant, WholeLine, WholeExchangeLine}
 use Rattle.line.proofs.LineFits.{line-fits, exchange-line-fits}
 
--- ---- the words of the list
+-- ---- a call
 
-of-drop : {k : ℕ} (n : ℕ) (l : List ℕ) → k ∈ drop n l → k ∈ l
-of-drop zero l m = m
-of-drop (suc n) [] m = m
-of-drop (suc n) (x ∷ l) m = List·Memᴰ·tail (of-drop n l m)
+module _ (file : List ℕ) where
+  -- Of the list that a call leaves only the signers are printed.
+  of-list : (room : ℕ) (before : List ℕ) (v : RecordVerdict) → recordAnswer file room ≡ v
+      → recordLine v (listAfter file v before) ≡ recordLine v (signers file)
+  unfolding recordLine
+  of-list room before (Granted count) e =
+      let counted = granted-exactly file room count .0 e .counted in
+      let rest : List ℕ = drop count before in
+      let first : take count (signers file ++ rest) ≡ take count (signers file) =
+      ap (λ (n : ℕ). take n (signers file ++ rest)) counted
+      ∙ take-append-seam (signers file) rest
+      ∙ sym (take-all count (signers file) (omega arith)) in
+      ap (λ (names : List ℕ). ascii "granted " ++ decimal count ++ listed names ++ ascii "\n") first
+  of-list room before (Refused number place) e = refl
 
-of-zeros : {k : ℕ} (n : ℕ) → k ∈ replicate n 0 → k ≡ 0
-of-zeros zero m = absurd (List·Memᴰ·not-nil m)
-of-zeros (suc n) m = ⊎-elim (λ e. e) (of-zeros n) (List·Memᴰ·cases-cons m)
+  -- A grant with a list of any length is one with 256 words, with the same count.
+  with-most : (room count : ℕ) → recordAnswer file room ≡ Granted count → recordAnswer file mostStatements ≡ Granted count
+  with-most room count e =
+      let says = granted-exactly file room count .0 e in
+      let few : count ≤ mostStatements = subst Small e (answers-small file room) in
+      let counted = says .counted in
+      granted-exactly file mostStatements count .1 (record {
+        keeps = says .keeps;
+        is-proof = says .is-proof;
+        fits = omega arith;
+        counted = counted;
+      })
 
--- They are numbers of principals, or 0 as they were.
-are-words : (file : List ℕ) (n : ℕ) (v : RecordVerdict) (list : List ℕ) → ListAfter file v (replicate n 0) list → (k : ℕ) → k ∈ list → k < 65536
-are-words file n (Granted count) list after k m =
-    ⊎-elim
-    (λ signs. let l = signers-are-principals (heads file) (seconds file) (statements file) k (after .are-signers .each k .0 signs) in omega arith)
-    (λ old. let z = of-zeros n (of-drop count (replicate n 0) old) in omega arith)
-    (List·Memᴰ·append-cases (after .names) (subst (λ (l : List ℕ). k ∈ l) (after .after-is) m))
-are-words file n (Refused number place) list after k m = let z = of-zeros n (subst (λ (l : List ℕ). k ∈ l) after m) in omega arith
+pub line-of-call : LineOfCall
+line-of-call file before after answer room answered left =
+    let e : recordAnswer file mostStatements ≡ answer = sym (answered ∙ ap (recordAnswer file) room) in
+    ap (recordLine answer) left
+    ∙ of-list file mostStatements before answer e
+    ∙ ap (λ (v : RecordVerdict). recordLine v (signers file)) (sym e)
 
--- ---- the line
+-- ---- a grant
+
+pub line-of-grant : LineOfGrant
+line-of-grant file before after answer g =
+    let e : recordAnswer file (length before) ≡ answer = sym (g .answered) in
+    ap (recordLine answer) (g .left)
+    ∙ of-list file (length before) before answer e
+    ∙ ap (λ (v : RecordVerdict). recordLine v (signers file)) (g .granted ∙ sym (with-most file (length before) (g .count) (e ∙ g .granted)))
+
+pub one-line : OneLine
+one-line file before after before′ after′ answer answer′ g h =
+    line-of-grant file before after answer g ∙ sym (line-of-grant file before′ after′ answer′ h)
+
+-- ---- the line written whole
+
+-- The signers are numbers that a word holds.
+are-words : (file : List ℕ) (k : ℕ) → k ∈ signers file → k < 65536
+are-words file k m =
+    let signs = signers-are (table file) (statements file) .each k .0 m in
+    let l = signers-are-principals (heads file) (seconds file) (statements file) k signs in omega arith
 
 -- A line that fits is written whole.
 fits-whole : (before line : List ℕ) {count : ℕ} {after : List ℕ} → length line ≤ length before
@@ -59,10 +101,10 @@ fits-whole before line fits counted is =
     is ∙ ap (λ (b : Bool). pick b (written before line) before) room ∙ written-fits before line fits ∙ ap (λ (n : ℕ). line ++ drop n before) (sym many)
 
 pub whole-line : WholeLine
-whole-line file before count after p room =
+whole-line file before count after counted is room =
     let v : RecordVerdict = recordAnswer file mostStatements in
-    let fits = line-fits v (p .list) (answers-small file mostStatements) (are-words file mostStatements v (p .list) (p .list-after)) in
-    fits-whole before (recordLine v (p .list)) (omega arith) (p .counted) (p .written)
+    let fits = line-fits v (signers file) (answers-small file mostStatements) (are-words file) in
+    fits-whole before (recordLine v (signers file)) (omega arith) counted is
 
 pub whole-exchange-line : WholeExchangeLine
 whole-exchange-line file before count after counted is room =

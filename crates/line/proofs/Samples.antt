@@ -2,6 +2,7 @@
 use mathlib.Core.Path.{refl}
 use Rattle.basics.specs.First.{first}
 use Rattle.basics.specs.Membership.{holds}
+use Rattle.basics.specs.Rising.{into}
 use Rattle.basics.specs.Refusals.{firstRefusal}
 use Rattle.text.specs.Ascii.{ascii}
 use Rattle.text.specs.Decimal.{digits, decimal}
@@ -10,7 +11,7 @@ use Rattle.table.specs.Entry.{entry}
 use Rattle.table.specs.Tests.{entries, wrongEntry, repeatedEntry}
 use Rattle.steps.specs.Step.{opens, step}
 use Rattle.steps.specs.Run.{walk, run}
-use Rattle.signers.specs.Signers.{joinedAll, signers}
+use Rattle.signers.specs.Signers.{signers}
 use Rattle.record.specs.Answer.{recordAnswer}
 use Rattle.exchange.specs.Answer.{exchangeAnswer}
 use Rattle.line.specs.RefusedLine.{refusedLine}
@@ -19,5 +20,5 @@ use Rattle.line.specs.ExchangeLine.{exchangeLine}
 use Rattle.line.specs.Samples.{Samples}
 
 pub samples : Samples
-unfolding listed recordLine refusedLine exchangeLine ascii decimal digits recordAnswer exchangeAnswer fileWords fileOf firstRefusal wrongEntry repeatedEntry first joinedAll signers run walk step opens holds entries entry
+unfolding listed recordLine refusedLine exchangeLine ascii decimal digits recordAnswer exchangeAnswer fileWords fileOf firstRefusal wrongEntry repeatedEntry first into signers run walk step opens holds entries entry
 samples = refl

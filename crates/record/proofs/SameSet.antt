@@ -2,7 +2,7 @@
 -- answer, and the same signers (specs/Promises.antt, `StatementsAreASet` and `StatedTwice`). Assumes nothing.
 use Prim.Native.Nat.{ℕ, _<_}
 use mathlib.Core.Path.{_≡_, refl, sym, ap, ap₂, subst, _∙_}
-use mathlib.Core.Logic.{_↔_, Iff·symm}
+use mathlib.Core.Logic.{Iff·symm}
 use mathlib.Core.List.{List, [], _∷_}
 use lib.ListN.{length}
 use Rattle.basics.specs.Membership.{_∈_}
@@ -17,8 +17,8 @@ use Rattle.steps.specs.Obligation.{obligation}
 use Rattle.steps.specs.Run.{walked}
 use Rattle.steps.specs.Figure1.{run}
 use Rattle.steps.proofs.Figure1.{hypotheses-are-a-set}
-use Rattle.signers.specs.Each.{AreSigners}
-use Rattle.signers.proofs.Each.{signers-are, one-count, same-signers}
+use Rattle.signers.specs.Signers.{signers as signersOf}
+use Rattle.signers.proofs.Each.{same-signers}
 use Rattle.record.specs.Layout.{formulas, goal, statements, steps, table, signers}
 use Rattle.record.specs.Answer.{goalOutside, statementOutside, listShort, tests, stepVerdict, recordAnswer}
 use Rattle.record.specs.Proof.{Sized}
@@ -42,14 +42,14 @@ module _ (file other : List ℕ) (s : SameSet file other) where
   same-table = ap₂ entries (s .same-heads) (s .same-seconds)
 
   -- They have the same signers,
-  same-names : (names : List ℕ) → AreSigners (table file) (statements file) names ↔ AreSigners (table other) (statements other) names
-  same-names names =
-      subst (λ (es : List Entry). AreSigners (table file) (statements file) names ↔ AreSigners es (statements other) names) same-table
-      (same-signers (table file) (statements file) (statements other) (s .same-statements) names)
+  same-names : signers file ≡ signers other
+  same-names =
+      same-signers (table file) (statements file) (statements other) (s .same-statements)
+      ∙ ap (λ (es : List Entry). signersOf es (statements other)) same-table
 
   -- as many,
   same-count : length (signers file) ≡ length (signers other)
-  same-count = one-count (table other) (statements other) (signers file) (same-names (signers file) .0 (signers-are (table file) (statements file)))
+  same-count = ap length same-names
 
   -- and the machine comes to the same.
   same-obligation : Alike (obligation (statements file) (goal file)) (obligation (statements other) (goal other))

@@ -2,27 +2,33 @@
 use mathlib.Core.Path.{refl}
 use Rattle.basics.specs.First.{first}
 use Rattle.basics.specs.Membership.{holds}
+use Rattle.basics.specs.Rising.{into}
 use Rattle.basics.specs.Refusals.{firstRefusal}
 use Rattle.file.specs.Words.{fileWords, fileOf}
 use Rattle.table.specs.Entry.{entry}
 use Rattle.table.specs.Tests.{entries, wrongEntry, repeatedEntry}
 use Rattle.steps.specs.Step.{opens, step}
 use Rattle.steps.specs.Run.{walk, run}
-use Rattle.signers.specs.Signers.{joinedAll, signers}
+use Rattle.signers.specs.Signers.{signers}
 use Rattle.record.specs.Answer.{recordAnswer}
-use Rattle.record.specs.Samples.{Samples, Order, Bytes}
+use Rattle.record.specs.Samples.{Samples, Order, Bytes, Lists}
 
 pub samples : Samples
-unfolding recordAnswer fileWords fileOf firstRefusal wrongEntry repeatedEntry first joinedAll signers
+unfolding recordAnswer fileWords fileOf firstRefusal wrongEntry repeatedEntry first into signers
     run walk step opens holds entries entry
 samples = (refl, refl)
 
 pub order : Order
-unfolding recordAnswer fileWords fileOf firstRefusal wrongEntry repeatedEntry first joinedAll signers
+unfolding recordAnswer fileWords fileOf firstRefusal wrongEntry repeatedEntry first into signers
     run walk step opens holds entries entry
 order = (refl, refl)
 
 pub bytes : Bytes
-unfolding recordAnswer fileWords firstRefusal wrongEntry repeatedEntry first joinedAll signers
+unfolding recordAnswer fileWords firstRefusal wrongEntry repeatedEntry first into signers
     run walk step opens holds entries entry
 bytes = refl
+
+pub lists : Lists
+unfolding recordAnswer fileWords fileOf firstRefusal wrongEntry repeatedEntry first into signers
+    run walk step opens holds entries entry
+lists = refl

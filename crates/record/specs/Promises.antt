@@ -8,10 +8,9 @@ use lib.ListN.{length, take}
 use Rattle.basics.specs.Membership.{_∈_}
 use Rattle.basics.specs.Limits.{mostStatements, mostSteps}
 use Rattle.basics.specs.Order.{FirstReason, checkingOrder}
-use Rattle.signers.specs.Each.{AreSigners}
 use Rattle.record.specs.declared.verdict.RecordVerdict.{RecordVerdict}
 use Rattle.record.specs.declared.verdict.RecordVerdict.the-variants.{Granted, Refused}
-use Rattle.record.specs.Layout.{formulas, goal, heads, seconds, statements, steps, mostBytes, table, signers}
+use Rattle.record.specs.Layout.{formulas, goal, heads, seconds, statements, steps, mostBytes, signers}
 use Rattle.record.specs.Answer.{recordAnswer}
 use Rattle.record.specs.Proof.{Sized, Keeps, IsProof}
 use Rattle.record.specs.Reasons.{Reason}
@@ -70,4 +69,4 @@ abbrev pub StatedTwice : Type 0
 StatedTwice =
     (file other : List ℕ) → Sized file → Sized other → SameSet file other
     → ((room count : ℕ) → recordAnswer file room ≡ Granted count ↔ recordAnswer other room ≡ Granted count)
-    × ((names : List ℕ) → AreSigners (table file) (statements file) names ↔ AreSigners (table other) (statements other) names)
+    × (signers file ≡ signers other)

@@ -9,6 +9,7 @@ use Rattle.record.specs.declared.verdict.RecordVerdict.{RecordVerdict}
 use Rattle.record.specs.declared.verdict.RecordVerdict.the-variants.{Granted, Refused}
 use Rattle.record.specs.Layout.{signers}
 use Rattle.record.specs.Answer.{recordAnswer}
+use Rattle.record.specs.ListAfter.{listAfter}
 
 -- a row: the words of the file, the length of the lent list, the answer, and whom a grant names
 pub record Sample : Type 0 where
@@ -107,3 +108,14 @@ abbrev pub Bytes : Type 0
 Bytes =
     map (λ file. recordAnswer file 256) (bytesOfA ∷ (2 ∷ []) ∷ (2 ∷ 0 ∷ 1 ∷ 0 ∷ 4 ∷ 0 ∷ 1 ∷ []) ∷ [])
     ≡ Granted 1 ∷ Refused 1 0 ∷ Refused 1 0 ∷ []
+
+-- What a call leaves of three words that are lent: A's signer stands first and the others are as they were, two signers
+-- stand in the first two, and C, refused, changes nothing.
+abbrev pub Lists : Type 0
+Lists =
+    map (λ words. listAfter (fileOf words) (recordAnswer (fileOf words) 3) (9 ∷ 5 ∷ 6 ∷ []))
+    (overT (1 ∷ []) 1 (40960 ∷ 45057 ∷ 4096 ∷ 0 ∷ [])
+    ∷ overT (2 ∷ 1 ∷ []) 1 (40960 ∷ 45057 ∷ 4096 ∷ 0 ∷ [])
+    ∷ overT (1 ∷ []) 0 (45057 ∷ [])
+    ∷ [])
+    ≡ (7 ∷ 5 ∷ 6 ∷ []) ∷ (7 ∷ 8 ∷ 6 ∷ []) ∷ (9 ∷ 5 ∷ 6 ∷ []) ∷ []

@@ -1,4 +1,4 @@
--- The parts of the check are `recordAnswer`, and what it leaves in the list is `ListAfter`. Assumes nothing.
+-- The parts of the check are `recordAnswer`, and what it leaves in the list is `listAfter`. Assumes nothing.
 use Prim.Native.Nat.{ℕ}
 use native.Mathlib.Omega.{arith}
 use mathlib.Core.Bool.{true, not}
@@ -12,12 +12,11 @@ use Rattle.basics.proofs.Refusals.{goes-on-at-0, joined-refused, joined-passed}
 use Rattle.basics.proofs.Written.{written-fits}
 use Rattle.file.specs.Layout.{layoutTests}
 use Rattle.file.proofs.LayoutLaws.{passed-to-three, parts-whole}
-use Rattle.signers.proofs.Each.{signers-are}
 use Rattle.record.specs.declared.verdict.RecordVerdict.{RecordVerdict}
 use Rattle.record.specs.declared.verdict.RecordVerdict.the-variants.{Granted, Refused}
-use Rattle.record.specs.Layout.{recordLayout, goal, heads, seconds, statements, steps, table, signers}
+use Rattle.record.specs.Layout.{recordLayout, goal, heads, seconds, statements, steps, signers}
 use Rattle.record.specs.Answer.{tests, recordAnswer}
-use Rattle.record.specs.ListAfter.{ListAfter}
+use Rattle.record.specs.ListAfter.{listAfter}
 use Rattle.record.specs.Proof.{Sized}
 use Rattle.record.proofs.LayoutIs.{sized}
 use Rattle.record.proofs.Lengths.{length-heads, length-seconds}
@@ -79,16 +78,10 @@ module _ (file : List ℕ) where
 
     -- what is in the list at the end
     leaves : (before after : List ℕ) (v : RecordVerdict) → v ≡ recordAnswer file (length before)
-        → after ≡ listWritten v (heads file) (seconds file) (statements file) before → ListAfter file v before after
+        → after ≡ listWritten v (heads file) (seconds file) (statements file) before → after ≡ listAfter file v before
     leaves before after (Granted count) e w =
-        let releases = granted-exactly file (length before) count .0 (sym e) in
-        let counted = releases .counted in
-        record {
-          names = signers file;
-          are-signers = signers-are (table file) (statements file);
-          counted = counted;
-          after-is = w ∙ written-fits before (signers file) (releases .fits) ∙ ap (λ (n : ℕ). signers file ++ drop n before) (sym counted);
-        }
+        let says = granted-exactly file (length before) count .0 (sym e) in
+        w ∙ written-fits before (signers file) (says .fits) ∙ ap (λ (n : ℕ). signers file ++ drop n before) (sym (says .counted))
     leaves before after (Refused number place) e w = w
 
     -- so what the code answers over the parts that it took, and leaves in the list
@@ -96,7 +89,7 @@ module _ (file : List ℕ) where
         (before : List ℕ) {hs ss ns ws after : List ℕ} {g : ℕ} {v : RecordVerdict}
         → hs ≡ heads file → ss ≡ seconds file → ns ≡ statements file → g ≡ goal file → ws ≡ steps file
         → v ≡ arraysAnswer hs ss ns g ws (length before) → after ≡ listWritten v hs ss ns before
-        → (v ≡ recordAnswer file (length before)) × ListAfter file v before after
+        → (v ≡ recordAnswer file (length before)) × (after ≡ listAfter file v before)
     whole before {hs} {ss} {ns} {ws} {after} {g} {v} eh es en eg ew answered left =
         let one : v ≡ arraysAnswer (heads file) (seconds file) (statements file) (goal file) (steps file) (length before) =
         answered ∙ (λ i. arraysAnswer (eh i) (es i) (en i) (eg i) (ew i) (length before)) in

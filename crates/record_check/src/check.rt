@@ -3,7 +3,7 @@ ghost use Prim.Native.Nat.{_*_, _≤_};
 ghost use mathlib.Core.Path.{_≡_};
 ghost use lib.ListN.{length};
 ghost use Rattle.record.specs.Answer.{recordAnswer};
-ghost use Rattle.record.specs.ListAfter.{ListAfter};
+ghost use Rattle.record.specs.ListAfter.{listAfter};
 ghost use Rattle.record.specs.Proof.{Sized};
 ghost use Rattle.record_check.specs.Parts.{granted, arraysAnswer, listWritten};
 use crate::judge::judge_parts;
@@ -68,7 +68,7 @@ fn check_sized(file: &[u8], words: &mut [u16], signers: &mut [u16]) -> RecordVer
     requires { ⌜ Sized (now file) ⌝ }
     requires { ⌜ length (now file) ≤ 2 * length (now words) ⌝ }
     ensures { λ r. ⌜ r ≡ recordAnswer (now (file .entry)) (length (now (signers .entry))) ⌝ }
-    ensures { λ r. ⌜ ListAfter (now (file .entry)) r (now (signers .entry)) (now (signers .exit)) ⌝ }
+    ensures { λ r. ⌜ now (signers .exit) ≡ listAfter (now (file .entry)) r (now (signers .entry)) ⌝ }
 {
     read_words(file, words);
     let formulas = word_at(file, 0) as usize;
@@ -90,7 +90,7 @@ fn check_sized(file: &[u8], words: &mut [u16], signers: &mut [u16]) -> RecordVer
 fn check_large(file: &[u8], signers: &mut [u16]) -> RecordVerdict
     requires { ⌜ Sized (now file) ⌝ }
     ensures { λ r. ⌜ r ≡ recordAnswer (now (file .entry)) (length (now (signers .entry))) ⌝ }
-    ensures { λ r. ⌜ ListAfter (now (file .entry)) r (now (signers .entry)) (now (signers .exit)) ⌝ }
+    ensures { λ r. ⌜ now (signers .exit) ≡ listAfter (now (file .entry)) r (now (signers .entry)) ⌝ }
 {
     if file.len() <= 2 * MANY_WORDS {
         let mut words = [0u16; MANY_WORDS];
@@ -106,7 +106,7 @@ fn check_large(file: &[u8], signers: &mut [u16]) -> RecordVerdict
 fn check_in(file: &[u8], words: &mut [u16], signers: &mut [u16]) -> RecordVerdict
     requires { ⌜ Sized (now file) ⌝ }
     ensures { λ r. ⌜ r ≡ recordAnswer (now (file .entry)) (length (now (signers .entry))) ⌝ }
-    ensures { λ r. ⌜ ListAfter (now (file .entry)) r (now (signers .entry)) (now (signers .exit)) ⌝ }
+    ensures { λ r. ⌜ now (signers .exit) ≡ listAfter (now (file .entry)) r (now (signers .entry)) ⌝ }
 {
     if file.len() <= 2 * words.len() {
         return check_sized(file, words, signers);
@@ -118,11 +118,11 @@ fn check_in(file: &[u8], words: &mut [u16], signers: &mut [u16]) -> RecordVerdic
     check_large(file, signers)
 }
 
-// The answer for a file of any bytes and length. On a grant the signers stand in the lent list from its start, in some
-// order, and the words after them are as they were; on a refusal the whole list is.
+// The answer for a file of any bytes and length. On a grant the signers stand in the lent list from its start, rising,
+// and the words after them are as they were; on a refusal the whole list is.
 pub fn check_record(file: &[u8], signers: &mut [u16]) -> RecordVerdict
     ensures { λ r. ⌜ r ≡ recordAnswer (now (file .entry)) (length (now (signers .entry))) ⌝ }
-    ensures { λ r. ⌜ ListAfter (now (file .entry)) r (now (signers .entry)) (now (signers .exit)) ⌝ }
+    ensures { λ r. ⌜ now (signers .exit) ≡ listAfter (now (file .entry)) r (now (signers .entry)) ⌝ }
 {
     if let Tested::Refused { number, place } = check_layout(file) {
         return RecordVerdict::Refused { number, place };

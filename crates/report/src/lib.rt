@@ -5,7 +5,7 @@ ghost use lib.ListN.{length, replicate, take};
 ghost use Rattle.exchange.specs.Answer.{exchangeAnswer};
 ghost use Rattle.line.specs.ExchangeLine.{exchangeLine};
 ghost use Rattle.line.specs.Line.{lineAfter, lineCount};
-ghost use Rattle.line.specs.Printed.{Printed};
+ghost use Rattle.line.specs.Printed.{printedLine};
 ghost use Rattle.line.specs.RecordLine.{mostLine};
 use basics::limits::MOST_STATEMENTS;
 use exchange_check::check::check_exchange;
@@ -26,7 +26,8 @@ pub fn line_buffer() -> [u8; MOST_LINE]
 
 // Checks a record, lending a list of 256 words, and writes the line of the answer as `write_record_line` does.
 pub fn record_line(file: &[u8], line: &mut [u8]) -> usize
-    ensures { λ r. ⌜ Printed (now (file .entry)) (now (line .entry)) r (now (line .exit)) ⌝ }
+    ensures { λ r. ⌜ r ≡ lineCount (now (line .entry)) (printedLine (now (file .entry))) ⌝ }
+    ensures { λ _. ⌜ now (line .exit) ≡ lineAfter (now (line .entry)) (printedLine (now (file .entry))) ⌝ }
     ensures { λ r. ⌜ (r ≤ length (now (line .exit))) × (r ≡ length (take r (now (line .exit)))) ⌝ }
 {
     let mut signers = [0u16; MOST_STATEMENTS];

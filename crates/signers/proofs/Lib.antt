@@ -1,7 +1,7 @@
--- The theorems whose statements are in specs/, and the lemmas behind them and behind the code.
+-- The theorems of specs/, and the laws behind the code.
 pub mod Joined
-pub mod Members
 pub mod Each
-pub mod Among
-pub mod Collected
+pub mod Insert
+pub mod Flags
+pub mod Loops
 pub mod Samples

@@ -1,11 +1,12 @@
--- What holds of the signers in whatever order they stand: "each once, in any order" (01). Proved in proofs/. Assumes
--- nothing.
+-- What holds of the signers: "each once" (01), "in rising principal number. Their order is then no longer a free part"
+-- (02, job 1). Proved in proofs/. Assumes nothing.
 use Prim.Native.Nat.{ℕ, _≤_, _<_}
 use mathlib.Core.Path.{_≡_}
 use mathlib.Core.Logic.{_↔_}
-use mathlib.Core.List.{List, [], _∷_}
+use mathlib.Core.List.{List}
 use lib.ListN.{length}
 use Rattle.basics.specs.Membership.{_∈_}
+use Rattle.basics.specs.Rising.{Rising}
 use Rattle.basics.specs.Limits.{mostPrincipals}
 use Rattle.logic.specs.Proposition.{Proposition, _says_}
 use Rattle.table.specs.declared.entry.Entry.{Entry}
@@ -24,22 +25,17 @@ pub record Signs (es : List Entry) (statements : List ℕ) (K : ℕ) : Type 0 wh
   pub said : Formula
   pub is : entryAt es statement ≡ Says (principal K) said
 
--- no number stands twice
-abbrev pub EachOnce : List ℕ → Type 0
-EachOnce [] = Unit
-EachOnce (k ∷ ks) = (¬ (k ∈ ks)) × EachOnce ks
-
--- these are the signers, each once; their order is free
+-- these are the signers, each once, in rising principal number
 pub record AreSigners (es : List Entry) (statements ks : List ℕ) : Type 0 where
   pub each : (K : ℕ) → K ∈ ks ↔ Signs es statements K
-  pub once : EachOnce ks
+  pub rising : Rising ks
 
 abbrev pub SignersAre : Type 0
 SignersAre = (es : List Entry) (statements : List ℕ) → AreSigners es statements (signers es statements)
 
--- In any order there are as many.
-abbrev pub OneCount : Type 0
-OneCount = (es : List Entry) (statements ks : List ℕ) → AreSigners es statements ks → length ks ≡ length (signers es statements)
+-- There is one list of which this holds.
+abbrev pub OneList : Type 0
+OneList = (es : List Entry) (statements ks : List ℕ) → AreSigners es statements ks → ks ≡ signers es statements
 
 -- There are no more signers than statements.
 abbrev pub NoMoreThanStatements : Type 0
@@ -47,7 +43,8 @@ NoMoreThanStatements = (es : List Entry) (statements : List ℕ) → length (sig
 
 -- A signer is a principal's number.
 abbrev pub SignersArePrincipals : Type 0
-SignersArePrincipals = (heads seconds statements : List ℕ) (K : ℕ) → Signs (entries heads seconds) statements K → K < mostPrincipals
+SignersArePrincipals =
+    (heads seconds statements : List ℕ) (K : ℕ) → Signs (entries heads seconds) statements K → K < mostPrincipals
 
 -- Over propositions: K signs exactly when a statement spells K says A, for some A.
 pub record SaysSome (es : List Entry) (statements : List ℕ) (K : ℕ) : Type 0 where
@@ -55,10 +52,10 @@ pub record SaysSome (es : List Entry) (statements : List ℕ) (K : ℕ) : Type 0
   pub stands : (K says said) ∈ spellAll es statements
 
 abbrev pub SignsSpelled : Type 0
-SignsSpelled = (es : List Entry) → Ordered es → (statements : List ℕ) (K : ℕ) → Signs es statements K ↔ SaysSome es statements K
+SignsSpelled =
+    (es : List Entry) → Ordered es → (statements : List ℕ) (K : ℕ) → Signs es statements K ↔ SaysSome es statements K
 
 -- Lists of statements with the same members have the same signers: "a statement that stands twice" makes no other.
 abbrev pub SameSigners : Type 0
 SameSigners =
-    (es : List Entry) (first second : List ℕ) → ((n : ℕ) → n ∈ first ↔ n ∈ second)
-    → (ks : List ℕ) → AreSigners es first ks ↔ AreSigners es second ks
+    (es : List Entry) (first second : List ℕ) → ((n : ℕ) → n ∈ first ↔ n ∈ second) → signers es first ≡ signers es second

@@ -1,5 +1,5 @@
--- The signers of statements over a table, and samples. Collected is for private functions.
+-- The signers of statements over a table, and samples. Marks is for a private function.
 pub mod Signers
 pub mod Each
-pub mod Collected
+pub mod Marks
 pub mod Samples

@@ -1,2 +1,4 @@
 // The signers of statements over a table.
 pub mod collect;
+mod few;
+mod many;

@@ -3,7 +3,7 @@
 use borrow.Author.Needs.{needs}
 use mathlib.Core.Path.{sym, ap, subst, _∙_}
 use Rattle.record.specs.declared.verdict.RecordVerdict.{RecordVerdict}
-use Rattle.record.specs.ListAfter.{ListAfter}
+use Rattle.record.specs.ListAfter.{listAfter}
 use Rattle.record.specs.Promises.{Small}
 use Rattle.record.proofs.Small.{answers-small}
 use Rattle.ffi.specs.Code.{answerCode}
@@ -19,7 +19,7 @@ returns c =
     let lent = called .before .before .before .before .args .signers .now in
     let file = called .before .before .before .before .args .file .now in (
       c .answer-code .ensures ∙ ap answerCode (called .check-record .ensures .0),
-      subst (λ (v : RecordVerdict). ListAfter file v lent (called .check-record .last .1 .0)) (called .check-record .ensures .0) (called .check-record .ensures .1),
+      called .check-record .ensures .1 ∙ ap (λ (v : RecordVerdict). listAfter file v lent) (called .check-record .ensures .0),
     )
 
 pub wethrynda-check-record-spec : {M : Type 1} → statement M

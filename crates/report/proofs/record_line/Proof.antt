@@ -8,11 +8,8 @@ returns : tie.Need-returns
 returns c =
     let w = c .before .before in
     let r = w .before .before .before .before in
-    let a = r .before .before .before .before .args in (
-      printed (a .file .now) (a .line .now) _ _ (r .check-record .ensures .0) (r .check-record .ensures .1) (w .write-record-line .ensures .0)
-          (w .write-record-line .ensures .1 .0),
-      w .write-record-line .ensures .1 .1,
-    )
+    let a = r .before .before .before .before .args in
+    printed (a .file .now) (a .line .now) (r .check-record .ensures .0) (r .check-record .ensures .1) (w .write-record-line .ensures)
 
 pub record-line-spec : {M : Type 1} → statement M
 record-line-spec =

@@ -1,0 +1,4 @@
+-- The theorems whose statements are in specs/.
+pub mod Order
+pub mod Samples
+pub mod Requests

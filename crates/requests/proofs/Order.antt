@@ -1,0 +1,86 @@
+-- Job 1 (specs/Order.antt). In order: the signers rise; there is one such list; in any order there are as many. Assumes
+-- nothing.
+use Prim.Native.Nat.{ℕ, suc, _≤_}
+use native.Mathlib.Omega.{arith}
+use mathlib.Core.Path.{_≡_, refl, sym, ap, subst, _∙_}
+use mathlib.Core.Logic.{⊎-elim, Iff·symm, Iff·trans}
+use mathlib.Core.List.{List, [], _∷_, _++_, List·Memᴰ·head, List·Memᴰ·tail, List·Memᴰ·cases-cons, Memᴰ·cast}
+use lib.ListN.{length, drop, take}
+use lib.Seq.{take-append-seam}
+use Rattle.basics.specs.Membership.{_∈_, _⊆_}
+use Rattle.basics.specs.Rising.{Rising}
+use Rattle.basics.proofs.Membership.{first}
+use Rattle.basics.proofs.Rising.{one-rising}
+use Rattle.signers.proofs.Each.{signers-are, signs-spelled}
+use Rattle.signers.specs.Signers as S
+use Rattle.record.specs.Layout.{table, statements, signers}
+use Rattle.record.specs.ListAfter.{listAfter}
+use Rattle.record.proofs.Granted.{granted-exactly}
+use Rattle.demands.specs.Release.{Signers}
+use Rattle.requests.specs.Order.{SignersRise, OrderNotFree, EachOnce, CountStays}
+
+-- ---- the signers rise
+
+pub signers-rise : SignersRise
+signers-rise file before after answer g =
+    let says = granted-exactly file (length before) (g .count) .0 (sym (g .answered) ∙ g .granted) in
+    let counted = says .counted in
+    let are = signers-are (table file) (statements file) in
+    let list : after ≡ signers file ++ drop (g .count) before = g .left ∙ ap (λ v. listAfter file v before) (g .granted) in
+    let names : take (g .count) after ≡ signers file =
+    ap (take (g .count)) list
+    ∙ ap (λ (n : ℕ). take n (signers file ++ drop (g .count) before)) counted
+    ∙ take-append-seam (signers file) (drop (g .count) before) in
+    let spelled = signs-spelled (table file) (says .keeps .ordered) (statements file) in (
+      subst (λ l. Signers file l) (sym names) (record { each = λ K. Iff·trans (are .each K) (spelled K); rising = are .rising }),
+      ap length names ∙ sym counted,
+    )
+
+-- ---- one list
+
+pub order-not-free : OrderNotFree
+order-not-free file names others are also =
+    one-rising names others (are .rising) (also .rising) (λ K. Iff·trans (are .each K) (Iff·symm (also .each K)))
+
+-- ---- as many in any order
+
+-- js without one place at which k stands
+record Without (k : ℕ) (js : List ℕ) : Type 0 where
+  others : List ℕ
+  one-less : length js ≡ suc (length others)
+  keeps : (a : ℕ) → a ∈ js → ¬ (a ≡ k) → a ∈ others
+
+-- A list that has k has such a rest,
+without : {k : ℕ} {js : List ℕ} → k ∈ js → Without k js
+without (List·Memᴰ·head {xs = xs} e) = record {
+  others = xs;
+  one-less = refl;
+  keeps = λ a m other. ⊎-elim (λ q. absurd (other (q ∙ sym e))) (λ i. i) (List·Memᴰ·cases-cons m);
+}
+without (List·Memᴰ·tail {x = x} i) =
+    let rest = without i in
+    record {
+      others = x ∷ rest .others;
+      one-less = ap suc (rest .one-less);
+      keeps = λ a m other. ⊎-elim List·Memᴰ·head (λ j. List·Memᴰ·tail (rest .keeps a j other)) (List·Memᴰ·cases-cons m);
+    }
+
+-- and the others of ks all stand in it.
+no-more : (ks js : List ℕ) → EachOnce ks → ks ⊆ js → length ks ≤ length js
+no-more [] js once all = omega arith
+no-more (k ∷ ks) js (alone, once) all =
+    let rest = without (all k first) in
+    let among : ks ⊆ rest .others = λ a m. rest .keeps a (all a (List·Memᴰ·tail m)) (λ q. alone (Memᴰ·cast (sym q) m)) in
+    omega (arith, rest .one-less, no-more ks (rest .others) once among)
+
+-- In a rising list each stands once.
+rising-once : (ks : List ℕ) → Rising ks → EachOnce ks
+rising-once [] r = tt
+rising-once (k ∷ ks) (below, rest) = (λ m. let l = below k m in omega arith, rising-once ks rest)
+
+pub count-stays : CountStays
+count-stays es ns ks each once =
+    let found = signers-are es ns in
+    let to : ks ⊆ S.signers es ns = λ K m. found .each K .1 (each K .0 m) in
+    let from : S.signers es ns ⊆ ks = λ K m. each K .1 (found .each K .0 m) in
+    omega (arith, no-more ks (S.signers es ns) once to, no-more (S.signers es ns) ks (rising-once (S.signers es ns) (found .rising)) from)

@@ -1,0 +1,36 @@
+-- "Signers shall stand in rising principal number. Their order is then no longer a free part" (02, job 1). Proved in
+-- proofs/Order.antt. Assumes nothing.
+use Prim.Native.Nat.{ℕ}
+use mathlib.Core.Path.{_≡_}
+use mathlib.Core.Logic.{_↔_}
+use mathlib.Core.List.{List, [], _∷_}
+use lib.ListN.{length, take}
+use Rattle.basics.specs.Membership.{_∈_}
+use Rattle.table.specs.declared.entry.Entry.{Entry}
+use Rattle.signers.specs.Signers.{signers}
+use Rattle.signers.specs.Each.{Signs}
+use Rattle.record.specs.declared.verdict.RecordVerdict.{RecordVerdict}
+use Rattle.line.specs.Printed.{Grants}
+use Rattle.demands.specs.Release.{Signers}
+
+-- A call that grants a file with a count leaves so many words at the start of the list, and these are the signers in
+-- rising number, whatever list is lent.
+abbrev pub SignersRise : Type 0
+SignersRise =
+    (file before after : List ℕ) (answer : RecordVerdict) (g : Grants file before after answer)
+    → Signers file (take (g .count) after) × (length (take (g .count) after) ≡ g .count)
+
+-- No two lists are a file's signers.
+abbrev pub OrderNotFree : Type 0
+OrderNotFree = (file names others : List ℕ) → Signers file names → Signers file others → names ≡ others
+
+-- What stays: 01 asked for the signers "each once, in any order". In any order there are as many, so that no answer, no
+-- refusal and no place is another.
+abbrev pub EachOnce : List ℕ → Type 0
+EachOnce [] = Unit
+EachOnce (k ∷ ks) = (¬ (k ∈ ks)) × EachOnce ks
+
+abbrev pub CountStays : Type 0
+CountStays =
+    (es : List Entry) (statements ks : List ℕ) → ((K : ℕ) → K ∈ ks ↔ Signs es statements K) → EachOnce ks
+    → length ks ≡ length (signers es statements)
