@@ -1,9 +1,9 @@
 //! A second checker for release records and exchange files, to be compared with the first.
 //!
-//! It is made from Figure 1 of source 003 (Garg and Pfenning 2006) and from the layouts, the rule
-//! table and the refusal order of page 01 alone. It shares nothing with the proved checker: no
-//! code, no types and no method. Formulas are trees here, hypotheses a set of trees, and a proof is
-//! checked by recursion on the derivation.
+//! It is made from Figure 1 of source 003 (Garg and Pfenning 2006), from the layouts, the rule
+//! table and the refusal order of page 01, and from request 1 of page 02 alone. It shares nothing
+//! with the proved checker: no code, no types and no method. Formulas are trees here, hypotheses a
+//! set of trees, and a proof is checked by recursion on the derivation.
 //!
 //! - `formula`: the trees. `table`: from a file's entries to trees (tests 4, 5 and 7).
 //! - `sequent`: judgments, sets of hypotheses, sequents. `figure1`: the rules (tests 13 and 14).

@@ -8,8 +8,8 @@ use super::sequent::Hypotheses;
 use super::table::Table;
 use std::collections::BTreeSet;
 
-/// Checks a record, for a lent list of `room` words. Granted: the signers, as a set.
-pub fn check_record(file: &[u8], room: usize) -> Result<BTreeSet<u16>, Refusal> {
+/// Checks a record, for a lent list of `room` words. Granted: the signers, as they go into it.
+pub fn check_record(file: &[u8], room: usize) -> Result<Vec<u16>, Refusal> {
     // Test 1.
     let [f, s, n, goal] = sizes(file)?;
     let [f, s, n] = [f, s, n].map(usize::from);
@@ -38,5 +38,6 @@ pub fn check_record(file: &[u8], room: usize) -> Result<BTreeSet<u16>, Refusal> 
     let steps = Steps { table: &table, words: &words };
     let end = steps.proof(&Hypotheses::of(&statements), goal, 0)?;
     steps.end(end)?;
-    Ok(signers)
+    // "Signers shall stand in rising principal number." (02) A set hands them out so.
+    Ok(signers.into_iter().collect())
 }

@@ -1,7 +1,6 @@
 //! The samples of 01, the errors that classes make, and the edges of each test.
 
 use second::{check_exchange, check_record, Refusal};
-use std::collections::BTreeSet;
 
 type Table<'a> = &'a [(u16, u16)];
 
@@ -40,12 +39,7 @@ fn exchange_file(table: Table, first: &[u16], second: &[u16], steps: &[u16]) -> 
     file([table.len(), first.len(), second.len(), steps.len()], table, &[first, second, steps])
 }
 
-fn record(
-    table: Table,
-    statements: &[u16],
-    goal: u16,
-    steps: &[u16],
-) -> Result<BTreeSet<u16>, Refusal> {
+fn record(table: Table, statements: &[u16], goal: u16, steps: &[u16]) -> Result<Vec<u16>, Refusal> {
     check_record(&record_file(table, statements, goal, steps), 256)
 }
 
@@ -53,8 +47,8 @@ fn exchange(table: Table, first: &[u16], second: &[u16], steps: &[u16]) -> Resul
     check_exchange(&exchange_file(table, first, second, steps))
 }
 
-fn granted(signers: &[u16]) -> Result<BTreeSet<u16>, Refusal> {
-    Ok(signers.iter().copied().collect())
+fn granted(signers: &[u16]) -> Result<Vec<u16>, Refusal> {
+    Ok(signers.to_vec())
 }
 
 fn refused<T>(number: u8, place: usize) -> Result<T, Refusal> {
@@ -199,6 +193,31 @@ fn tables_and_lists() {
     assert_eq!(check_record(&two, 1), refused(8, 0));
     assert_eq!(check_record(&two, 2), granted(&[7, 8]));
     assert_eq!(check_record(&record_file(T, &[1], 0, &[65535]), 0), refused(8, 0));
+}
+
+/// "Signers shall stand in rising principal number" (02), each once.
+#[test]
+fn signers_rise() {
+    // An order and, after it, what each of these says of it.
+    let papers = [0, 7, 8, 9, 10, 63, 64, 4095];
+    let table: Vec<(u16, u16)> =
+        [(0, 0)].into_iter().chain(papers.map(|k| (20480 + k, 0))).collect();
+    for (statements, signers) in [
+        (&[3, 2][..], &[7, 8][..]),
+        (&[2, 3], &[7, 8]),
+        (&[8, 5, 4, 1], &[0, 9, 10, 4095]),
+        (&[3, 2, 3], &[7, 8]),
+        (&[7, 6, 7, 8, 6, 1], &[0, 63, 64, 4095]),
+    ] {
+        assert_eq!(record(&table, &[statements, &[0]].concat(), 0, &[0]), granted(signers));
+    }
+    // As many as can be, in falling order.
+    let all: Vec<u16> = (0..256).map(|i| 16 * i + 15).collect();
+    let table: Vec<(u16, u16)> =
+        [(0, 0)].into_iter().chain(all.iter().map(|k| (20480 + k, 0))).collect();
+    let statements: Vec<u16> = (1..=256).rev().collect();
+    let steps = [SAYS_RIGHT, SAYS_LEFT + 1, AFFIRM, 0];
+    assert_eq!(record(&table, &statements, 1, &steps), granted(&all));
 }
 
 /// The order of 11 to 14 at one step.
