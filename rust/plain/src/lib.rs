@@ -33,8 +33,8 @@ fn sizes(file: &[u8]) -> Result<([usize; 4], Words<'_>), Refusal> {
     Ok(([0, 1, 2, 3].map(|i| sizes.at(i) as usize), rest))
 }
 
-/// Checks a record. Granted, the signers stand at the start of the lent list, and their count is
-/// given; refused, the list is as it was.
+/// Checks a record. Granted, the signers stand at the start of the lent list, rising by number, and
+/// their count is given; refused, the list is as it was.
 pub fn check_record(file: &[u8], signers: &mut [u16]) -> Result<usize, Refusal> {
     let ([formulas, count, steps, goal], rest) = sizes(file)?;
     if formulas == 0

@@ -1,10 +1,11 @@
 //! The samples of document 01, every sample of the repository with the line that is stored for it,
-//! and a table made for collisions.
+//! signers of few and many statements, and a table made for collisions.
 use builder::layout::{bytes, exchange, record};
 use builder::samples::T;
 use plain::{check_exchange, check_record, Refusal};
-use std::fs;
+use std::collections::BTreeSet;
 use std::path::Path;
+use std::{fs, iter};
 
 /// The line that the record program would print, with a list of so many words; the words after the
 /// signers are as they were.
@@ -82,13 +83,47 @@ fn every_sample_of_the_repository() {
         let file = fs::read(top.join("samples").join(name)).expect(name);
         let is_record = name.ends_with(".record");
         let found = if is_record { record_line(&file, 256) } else { exchange_line(&file) };
-        // the order of signers is free
-        let sorted = |line: &str| {
-            let mut words: Vec<String> = line.split(' ').map(String::from).collect();
-            words[1..].sort();
-            words
-        };
-        assert_eq!(sorted(&found), sorted(answer), "{name}");
+        assert_eq!(found, answer, "{name}");
+    }
+}
+
+/// A record in which these principals say atom 0, in this order, among so many standing orders.
+fn signed(principals: &[u16], orders: usize) -> Vec<u8> {
+    let heads: BTreeSet<u16> = principals.iter().map(|principal| 20480 + principal).collect();
+    let table: Vec<(u16, u16)> = iter::once(0).chain(heads).map(|head| (head, 0)).collect();
+    let paper = |principal: &u16| table.iter().position(|entry| entry.0 == 20480 + principal);
+    let papers = principals.iter().map(|principal| paper(principal).expect("an entry") as u16);
+    let statements: Vec<u16> = iter::repeat_n(0, orders).chain(papers).collect();
+    bytes(&record(&table, &statements, 0, &[0]))
+}
+
+#[test]
+fn signers_rise() {
+    let mixed: Vec<u16> = (0..255u32).map(|i| (i * 2017 % 4096) as u16).collect();
+    let lists: [&[u16]; 8] = [
+        &[],
+        &[8, 7],
+        &[4095, 10, 9, 0],
+        &[8, 7, 8],
+        &[64, 63, 128, 127, 63, 64],
+        &[4095, 4032, 4031, 0, 64, 63, 1],
+        &[7, 7, 7, 7, 7, 7, 7],
+        &mixed,
+    ];
+    for principals in lists {
+        let signers: BTreeSet<u16> = principals.iter().copied().collect();
+        let listed: String = signers.iter().map(|signer| format!(" {signer}")).collect();
+        let line = format!("granted {}{listed}", signers.len());
+        // few statements in all, and many
+        for orders in [1, 256 - principals.len()] {
+            let file = signed(principals, orders);
+            for room in [signers.len(), 256, 300] {
+                assert_eq!(record_line(&file, room), line, "{principals:?}, {orders} orders");
+            }
+            if let Some(room) = signers.len().checked_sub(1) {
+                assert_eq!(record_line(&file, room), "refused 8 place 0", "{principals:?}");
+            }
+        }
     }
 }
 
