@@ -74,14 +74,17 @@ fn every_sample_has_a_line() {
     assert_eq!(files(&top().join(LINK)).keys().collect::<Vec<_>>(), names);
 }
 
-/// A line of document 01's for a file of that kind.
+/// A line of document 01's for a file of that kind, with signers that rise.
 fn is_line(ending: &str, line: &str) -> bool {
     let is_number = |word: &str| word.parse().is_ok_and(|number: u16| number.to_string() == word);
     match line.split(' ').collect::<Vec<_>>()[..] {
         ["equal"] => ending == "exchange",
         ["granted", count, ref signers @ ..] => {
             let is_counted = count == signers.len().to_string();
-            ending == "record" && is_counted && signers.iter().all(|signer| is_number(signer))
+            let numbers: Vec<u16> = signers.iter().filter_map(|word| word.parse().ok()).collect();
+            let rise = numbers.is_sorted_by(|one, next| one < next);
+            let are_numbers = signers.iter().all(|signer| is_number(signer));
+            ending == "record" && is_counted && are_numbers && rise
         }
         ["refused", number, "place", place] => {
             // an exchange file has no goal and no signers

@@ -184,11 +184,20 @@ pub fn signers() -> Section<Record> {
     let both = papers.number(And(a0, a1));
     let p7_both = papers.number(Says(7, both));
 
-    // a paper of p7 and one of p8
+    // a paper of p7 and two of p8
     let mut two = Table::default();
     let t0 = two.number(Atom(0));
     let t7 = two.number(Says(7, t0));
     let t8 = two.number(Says(8, t0));
+    let t1 = two.number(Atom(1));
+    let t8_too = two.number(Says(8, t1));
+    let t7_is_said = [SAYS_RIGHT, SAYS_LEFT + t7, AFFIRM, INIT + t0];
+
+    // a paper of each of four
+    let mut four = Table::default();
+    let f0 = four.number(Atom(0));
+    let papers_of_four = [4095, 10, 9, 0].map(|k| four.number(Says(k, f0)));
+    let of_p0 = papers_of_four[3];
 
     // an order that names p7
     let mut order = Table::default();
@@ -200,7 +209,7 @@ pub fn signers() -> Section<Record> {
     Section {
         title: "Who signs",
         about: "The signers are the principals K of the statements of the form K says A, each \
-                once. What is proved has no part in it.",
+                once, in rising number. What is proved has no part in it.",
         samples: vec![
             sample(
                 "two-papers-one-signer",
@@ -235,8 +244,34 @@ pub fn signers() -> Section<Record> {
             sample(
                 "unused-paper",
                 "No step names the paper of p8, and p8 is a signer all the same.",
-                record(&two, &[t7, t8], t7, &[SAYS_RIGHT, SAYS_LEFT + t7, AFFIRM, INIT + t0]),
+                record(&two[..3], &[t7, t8], t7, &t7_is_said),
                 "granted 2 7 8",
+            ),
+            sample(
+                "eight-before-seven",
+                "The paper of p8 stands before p7's. Signers are listed by number, so 7 comes \
+                 first.",
+                record(&two[..3], &[t8, t7], t7, &t7_is_said),
+                "granted 2 7 8",
+            ),
+            sample(
+                "signer-first-and-last",
+                "The first paper and the last are p8's, and the one between is p7's: p8 is one \
+                 signer, and is listed after p7.",
+                record(&two, &[t8, t7, t8_too], t7, &t7_is_said),
+                "granted 2 7 8",
+            ),
+            sample(
+                "four-signers",
+                "Papers of p4095, p10, p9 and p0, in this order. The number counts and not its \
+                 figures: 9 is listed before 10, and 0 first of all.",
+                record(
+                    &four,
+                    &papers_of_four,
+                    of_p0,
+                    &[SAYS_RIGHT, SAYS_LEFT + of_p0, AFFIRM, INIT + f0],
+                ),
+                "granted 4 0 9 10 4095",
             ),
             sample(
                 "order-names-a-principal",
