@@ -28,7 +28,7 @@ extern "C" {
  * writes no file, and keeps nothing from call to call.
  *
  * Granted: the record's signers, principal numbers from 0 to 4095, stand in signers[0] .. signers[count - 1], each
- * once. Their ORDER IS FREE: do not rely on it. The words after them are as they were.
+ * once, strictly rising by number. The words after them are as they were.
  * Refused: no word of the list has changed. A list shorter than the number of signers is refusal 8.
  *
  * What the caller sees to, since the function cannot test it:

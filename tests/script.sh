@@ -59,13 +59,13 @@ words 3 1 2 7 0 1 12288 0 0 1 2 0 1 24578 0 24578 1 20480 0 1 >"$room/K"
 words 1 0 1 1 0 0 0 0 >"$room/L"
 { words 4096 256 256 16384 && zeros 50176; } >"$room/longest-exchange"
 : >"$room/empty"
-# A's proof with 256 papers, of the principals 3840 to 4095: as many signers as can be, and the longest line.
+# A's proof with 256 papers, of the principals 4095 down to 3840: as many signers as can be, and the longest line.
 names=$(i=3840 && while [ $i -le 4095 ]; do echo $i && i=$((i + 1)); done)
 {
     words 257 256 4 1 0
     for name in $names; do words $((20480 + name)); done
     zeros 514
-    for name in $names; do words $((name - 3839)); done
+    for name in $names; do words $((4096 - name)); done
     words 40960 45057 4096 0
 } >"$room/signed"
 # shellcheck disable=SC2086,SC2116 # the numbers on one line

@@ -54,7 +54,7 @@ fn refusal(answer: u64) -> Option<(u8, usize)> {
 /// Checks a record: any bytes, of any length.
 ///
 /// Granted, its signers, principal numbers from 0 to 4095, stand at the start of the list that is
-/// lent, each once, in an order that is free; the words after them are as they were. Refused, no
+/// lent, each once, strictly rising by number; the words after them are as they were. Refused, no
 /// word of the list has changed. A list shorter than the number of signers is refusal 8.
 ///
 /// It needs about 300 KB of stack, which a thread has by default.

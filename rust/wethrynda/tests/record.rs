@@ -21,18 +21,14 @@ fn assert_refused(file: &[u8], room: usize, number: u8, place: usize, about: &st
     assert_eq!(list, lent(room), "{about}");
 }
 
-/// Granted, with these signers from the list's start, each once, in whatever order, and the words
-/// after them as they were.
+/// Granted, with these signers from the list's start, in this order, and the words after them as
+/// they were.
 fn assert_granted(file: &[u8], room: usize, signers: &[u16], about: &str) {
     let count = signers.len();
     let mut list = lent(room);
     let about = format!("{about}, list of {room}");
     assert_eq!(check_record(file, &mut list), Verdict::Granted(count), "{about}");
-    let (mut written, mut wanted) = (list[..count].to_vec(), signers.to_vec());
-    written.sort();
-    wanted.sort();
-    assert_eq!(written, wanted, "{about}");
-    assert_eq!(list[count..], lent(room)[count..], "{about}");
+    assert_eq!(list, [signers, &lent(room)[count..]].concat(), "{about}");
 }
 
 fn assert_answer(file: &[u8], room: usize, answer: &Answer, about: &str) {
@@ -214,6 +210,44 @@ fn noise_is_refused() {
         let is_refused = matches!(verdict, Verdict::Refused { number: 1..=15, .. });
         assert!(is_refused, "{verdict:?} for {file:?}");
         assert_eq!(list, lent(5), "{file:?}");
+    }
+}
+
+/// A record in which these principals say atom 0, in this order, after so many standing orders.
+fn signed(principals: &[u16], orders: usize) -> Vec<u8> {
+    let mut table = vec![(0, 0)];
+    let mut statements = vec![0; orders];
+    for principal in principals {
+        let entry = (20480 + principal, 0);
+        let paper = table.iter().position(|other| *other == entry).unwrap_or(table.len());
+        statements.push(paper as u16);
+        if paper == table.len() {
+            table.push(entry);
+        }
+    }
+    record(&table, &statements, 0, &[0])
+}
+
+#[test]
+fn signers_rise() {
+    let rows: [(&[u16], &[u16]); 7] = [
+        (&[7, 8], &[7, 8]),
+        (&[8, 7], &[7, 8]),
+        (&[4095, 10, 9, 0], &[0, 9, 10, 4095]),
+        (&[8, 7, 8], &[7, 8]),
+        (&[7, 8, 7], &[7, 8]),
+        (&[128, 64, 127, 63, 64, 128], &[63, 64, 127, 128]),
+        (&[4095, 4032, 4031, 64, 1, 0], &[0, 1, 64, 4031, 4032, 4095]),
+    ];
+    for (principals, signers) in rows {
+        // few statements, and as many as can be
+        for orders in [1, 12, 256 - principals.len()] {
+            let file = signed(principals, orders);
+            let about = format!("{principals:?} after {orders} orders");
+            assert_granted(&file, signers.len(), signers, &about);
+            assert_granted(&file, MOST_SIGNERS, signers, &about);
+            assert_refused(&file, signers.len() - 1, 8, 0, &about);
+        }
     }
 }
 
