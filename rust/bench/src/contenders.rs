@@ -58,7 +58,8 @@ pub fn assert_answers(name: &str, file: &File) {
     }
 }
 
-/// Granted with the same signers by all three, or refused by all three with the lists as they were.
+/// Granted with the same list of signers by all three, or refused by all three with the lists as
+/// they were.
 fn assert_record(name: &str, file: &File) {
     let [mut by_proved, mut by_plain] = [[LENT; MOST_SIGNERS]; 2];
     let proved = match wethrynda::check_record(&file.bytes, &mut by_proved) {
@@ -72,9 +73,8 @@ fn assert_record(name: &str, file: &File) {
     let signers = second.clone().unwrap_or_default();
     let count = signers.len();
     assert_same(name, [proved, plain, second.map(|_| count)], file.refusal.map_or(Ok(count), Err));
-    for list in [&mut by_proved, &mut by_plain] {
-        list[..count].sort();
-        assert!(list[..count].iter().eq(&signers), "{name}, signers");
+    for list in [by_proved, by_plain] {
+        assert_eq!(list[..count], signers, "{name}, signers");
         assert!(list[count..].iter().all(|&word| word == LENT), "{name}, words after the signers");
     }
 }
