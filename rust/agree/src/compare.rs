@@ -1,14 +1,13 @@
 //! Both checkers on one file: the answer, and every word of the lent list.
 use crate::given::Given;
 use crate::parts::Kind;
-use std::collections::BTreeSet;
 use wethrynda::{Exchange, Verdict};
 
 /// What a checker says of a file.
 #[derive(Clone, Debug, PartialEq, Eq)]
 pub enum Answer {
-    /// Granted, with these signers.
-    Granted(BTreeSet<u16>),
+    /// Granted, with these signers in this order.
+    Granted(Vec<u16>),
     Equal,
     Refused {
         number: u8,
@@ -44,9 +43,10 @@ pub fn second(file: &[u8], kind: Kind, room: usize) -> Answer {
     }
 }
 
-/// "each once, in any order. They go into a lent list of 16-bit words, from its start; the words
-/// after them don't change"; "A refusal .. changes nothing that is lent". The list is full of words
-/// beforehand, principals among them.
+/// "They go into a lent list of 16-bit words, from its start; the words after them don't change";
+/// "A refusal .. changes nothing that is lent" (01). The list is full of words beforehand,
+/// principals among them. What stands at its start after a grant is compared with the second
+/// checker's signers word for word.
 fn proved_record(file: &[u8], room: usize) -> Answer {
     let factor = if file.len() % 4 < 2 { 1 } else { 0x9e37 };
     let before: Vec<u16> = (0..room).map(|i| (i as u16).wrapping_mul(factor)).collect();
@@ -55,16 +55,12 @@ fn proved_record(file: &[u8], room: usize) -> Answer {
         Verdict::Granted(count) if count > room => {
             Answer::Broken(format!("granted {count} in a list of {room}"))
         }
+        Verdict::Granted(count) if lent[count..] != before[count..] => Answer::Broken(format!(
+            "granted {count}, and words after the signers changed: {lent:?}"
+        )),
         Verdict::Granted(count) => {
-            let signers: BTreeSet<u16> = lent[..count].iter().copied().collect();
-            if signers.len() != count {
-                Answer::Broken(format!("granted {count}, a signer twice: {:?}", &lent[..count]))
-            } else if lent[count..] != before[count..] {
-                let after = "and words after the signers changed";
-                Answer::Broken(format!("granted {count}, {after}: {lent:?}"))
-            } else {
-                Answer::Granted(signers)
-            }
+            lent.truncate(count);
+            Answer::Granted(lent)
         }
         Verdict::Refused { number, place } if lent != before => Answer::Broken(format!(
             "refused {number} place {place}, and the list changed: {lent:?}"

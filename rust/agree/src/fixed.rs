@@ -9,8 +9,8 @@ use crate::{exchanges, records};
 use builder::layout::bytes;
 use builder::random::Random;
 use builder::samples::{A, K, T};
-use builder::steps::part;
-use builder::table::Entry::{self, And, Atom, False, Implies, Or};
+use builder::steps::{part, IMPLIES_RIGHT, INIT};
+use builder::table::Entry::{self, And, Atom, False, Implies, Or, Says};
 
 /// How many seeded files the set has.
 pub const SEEDED: u64 = 300_000;
@@ -37,6 +37,7 @@ impl Fixed {
         for (words, kind) in small_files() {
             pieces.extend(near(&words, kind));
         }
+        pieces.extend(all_short_lists());
         pieces.push(Piece { count: SEEDED, make: Box::new(|number| given(SEED, number)) });
         for (words, kind) in [(&A[..], Kind::Record), (&K, Kind::Exchange)] {
             pieces.extend((0..words.len()).map(|at| any_word(words, kind, at)));
@@ -176,6 +177,30 @@ fn all_short_proofs() -> Vec<Piece> {
         }
     }
     pieces
+}
+
+/// All lists of up to five statements out of six, with a goal that needs none of them: an order,
+/// and papers of the principals 4,095, 9 (two), 0 and 10. They stand alone, and after a dozen
+/// orders: a checker may find the signers of few statements and of many in different ways.
+fn all_short_lists() -> [Piece; 2] {
+    let papers = [Says(4095, 0), Says(9, 0), Says(0, 0), Says(10, 0), Says(9, 1)];
+    let entries = [&[Atom(0)], &papers[..], &[Implies(0, 0)]].concat();
+    let table: Vec<(u16, u16)> = entries.into_iter().map(Entry::words).collect();
+    [0, 12].map(|orders| {
+        let parts = Parts::record(&table, vec![0; orders], 6, vec![IMPLIES_RIGHT, INIT]);
+        let make = move |number: u64| {
+            let mut parts = parts.clone();
+            let mut rest = number;
+            // 0 stands for no statement, 1 to 6 for the first six entries
+            while rest > 0 {
+                let statement = (rest % 7) as u16;
+                rest /= 7;
+                parts.first.extend((statement > 0).then(|| statement - 1));
+            }
+            Given { to_both: false, ..fixed(Kind::Record, parts.bytes()) }
+        };
+        Piece { count: 7 * 7 * 7 * 7 * 7, make: Box::new(make) }
+    })
 }
 
 /// Each kind of file and size of a table, with each way to repeat.

@@ -60,6 +60,7 @@ pub fn large(random: &mut Random, kind: Kind) -> Given {
 fn right(random: &mut Random, kind: Kind) -> Parts {
     match kind {
         Kind::Record if random.one_in(40) => records::needs_twice(random),
+        Kind::Record if random.one_in(4) => records::signed(random),
         Kind::Record => records::small(random, None),
         Kind::Exchange => exchanges::small(random, None),
     }

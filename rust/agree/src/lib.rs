@@ -1,6 +1,6 @@
 //! Generated files, on which the proved checker (`wethrynda`) and the second checker (`second`)
-//! have to agree: answer, number, place, signers; and every word of the proved one's lent list is
-//! looked at.
+//! have to agree: answer, number, place, signers in their order; and every word of the proved one's
+//! lent list is looked at.
 //!
 //! - `random_table`, `identity`, `parts`: random formulas, their proofs from themselves, a file's
 //!   parts. The package `builder` has what they are made of.

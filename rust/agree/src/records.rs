@@ -6,7 +6,7 @@ use crate::random_table::RandomTable;
 use crate::slips;
 use builder::random::Random;
 use builder::steps::*;
-use builder::table::Entry::{False, Implies, Or};
+use builder::table::Entry::{False, Implies, Or, Says};
 
 /// A small record: a random goal, a grown proof, what it needs as statements, and what nobody
 /// needs.
@@ -30,6 +30,36 @@ pub fn small(random: &mut Random, slip: Option<Slip>) -> Parts {
     grower.grow(Judgment::Truth(goal), steps, 1);
     let (statements, steps) = (grower.statements, grower.steps);
     dressed(random, table, statements, goal, steps)
+}
+
+/// Principals at the edges of decimal lengths, and of groups of 64, by which a checker may keep
+/// them.
+const EDGES: [u16; 12] = [0, 1, 9, 10, 63, 64, 99, 100, 999, 1000, 4032, 4095];
+
+/// A small record with papers that nobody needs, by several principals in any order: mostly a few,
+/// now and then as many as there may be statements.
+pub fn signed(random: &mut Random) -> Parts {
+    let mut parts = small(random, None);
+    let room = 256 - parts.first.len();
+    let papers = match random.below(32) {
+        0 => room,
+        1..=4 => random.between(7, 40),
+        _ => random.between(2, 6),
+    };
+    for _ in 0..papers.min(room) {
+        let any = random.below(4096) as u16;
+        let principal = if random.one_in(3) { any } else { random.pick(&EDGES) };
+        let entry = Says(principal, random.below(parts.table.len()) as u16).words();
+        let place = parts.table.iter().position(|&other| other == entry);
+        parts.first.push(place.unwrap_or(parts.table.len()) as u16);
+        if place.is_none() {
+            parts.table.push(entry);
+        }
+    }
+    if random.one_in(2) {
+        random.shuffle(&mut parts.first);
+    }
+    parts
 }
 
 /// "not not (A or not A)" has no proof without its hypothesis twice.

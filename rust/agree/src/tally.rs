@@ -10,6 +10,8 @@ pub struct Tally {
     pub files: u64,
     pub families: [u64; FAMILIES.len()],
     pub granted: u64,
+    /// Granted with two signers or more, which have an order.
+    pub several: u64,
     pub equal: u64,
     /// Refusals of records by number, from 1 to 15.
     pub records: [u64; 16],
@@ -26,7 +28,10 @@ impl Tally {
         self.families[family.expect("a family of the list")] += 1;
         for (kind, answer) in answers {
             match answer {
-                Answer::Granted(_) => self.granted += 1,
+                Answer::Granted(signers) => {
+                    self.granted += 1;
+                    self.several += u64::from(signers.len() > 1);
+                }
                 Answer::Equal => self.equal += 1,
                 Answer::Refused { number, .. } => match kind {
                     Kind::Record => self.records[usize::from(*number)] += 1,
@@ -44,6 +49,7 @@ impl Tally {
     pub fn add(&mut self, other: &Tally) {
         self.files += other.files;
         self.granted += other.granted;
+        self.several += other.several;
         self.equal += other.equal;
         let pairs = |mine: &mut [u64], theirs: &[u64]| {
             mine.iter_mut().zip(theirs).for_each(|(a, b)| *a += b);
@@ -63,6 +69,7 @@ impl Tally {
             }
         };
         expect(self.granted, "granted".to_string());
+        expect(self.several, "granted with several signers".to_string());
         expect(self.equal, "equal".to_string());
         for number in 1..=15 {
             expect(self.records[number], format!("refusal {number} of a record"));
@@ -96,6 +103,7 @@ impl fmt::Display for Tally {
         }
         writeln!(f, "\n{:<28} {:>12} {:>14}", "answer", "record", "exchange")?;
         writeln!(f, "{:<28} {:>12} {:>14}", "granted, equal", self.granted, self.equal)?;
+        writeln!(f, "{:<28} {:>12} {:>14}", "with several signers", self.several, "-")?;
         for number in 1..=15 {
             let exchange = match number {
                 6 | 8 => "-".to_string(),

@@ -5,7 +5,6 @@ use agree::fixed::{Fixed, SEED, SEEDED};
 use agree::given::{given, Given};
 use agree::parts::Kind;
 use agree::run::STACK;
-use std::collections::BTreeSet;
 use std::panic::{catch_unwind, set_hook, take_hook};
 use std::thread;
 
@@ -16,7 +15,7 @@ type Refusal = (u8, usize);
 struct Fault {
     name: &'static str,
     what: &'static str,
-    record: fn(&[u8], usize) -> Result<BTreeSet<u16>, Refusal>,
+    record: fn(&[u8], usize) -> Result<Vec<u16>, Refusal>,
     exchange: fn(&[u8]) -> Result<(), Refusal>,
 }
 
@@ -52,7 +51,10 @@ impl Fault {
 fn in_words(answer: &Option<Answer>) -> String {
     match answer {
         None => "panic".to_string(),
-        Some(Answer::Granted(signers)) => format!("granted {}", signers.len()),
+        Some(Answer::Granted(signers)) => {
+            let listed: String = signers.iter().map(|signer| format!(" {signer}")).collect();
+            format!("granted {}{listed}", signers.len())
+        }
         Some(Answer::Equal) => "equal".to_string(),
         Some(Answer::Refused { number, place }) => format!("{number} place {place}"),
         Some(Answer::Broken(what)) => what.clone(),
@@ -96,7 +98,7 @@ fn find_all(files: u64, make: impl Fn(u64) -> Given) -> Vec<Option<Found>> {
 /// The fixed set finds each fault, and so do its seeded files alone, without the exhaustive pieces.
 #[test]
 fn the_fixed_set_finds_each_fault() {
-    assert_eq!(FAULTS.len(), 76);
+    assert_eq!(FAULTS.len(), 81);
     let fixed = Fixed::new();
     // a fault that is found by a panic is an error below; the message would only be in the way
     let hook = take_hook();
@@ -117,7 +119,7 @@ fn the_fixed_set_finds_each_fault() {
     set_hook(hook);
     let [in_set, in_seeded] = found.map(|search| search.expect("the search ends"));
     println!(
-        "{:<32} {:>8}  {:>8}  {:<10} {:<14} {:<14} the fault",
+        "{:<32} {:>8}  {:>8}  {:<10} {:<20} {:<20} the fault",
         "name", "file", "seeded", "family", "right answer", "its answer"
     );
     let mut never = vec![];
@@ -134,7 +136,7 @@ fn the_fixed_set_finds_each_fault() {
         let [right, wrong] = &first.answers;
         let (name, what) = (fault.name, fault.what);
         println!(
-            "{name:<32} {:>8}  {:>8}  {:<10} {right:<14} {wrong:<14} {what}",
+            "{name:<32} {:>8}  {:>8}  {:<10} {right:<20} {wrong:<20} {what}",
             first.number, seeded.number, first.family
         );
     }
