@@ -87,7 +87,7 @@ fn every_sample_of_the_repository() {
     }
 }
 
-/// A record in which these principals say atom 0, in this order, among so many standing orders.
+/// A record in which these principals say atom 0, in this order, after so many standing orders.
 fn signed(principals: &[u16], orders: usize) -> Vec<u8> {
     let heads: BTreeSet<u16> = principals.iter().map(|principal| 20480 + principal).collect();
     let table: Vec<(u16, u16)> = iter::once(0).chain(heads).map(|head| (head, 0)).collect();
