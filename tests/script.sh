@@ -239,7 +239,7 @@ known exchange 1 'refused 9 place 16384'
 for line in 'refused 0 place 0' 'refused 16 place 0' 'refused' 'refused 14' 'refused 14 place' 'refused 14 place x' 'refused 14 place 03' 'refused 014 place 3' \
     'refused 14 place 3 4' 'refused 14 place -3' 'refused 14 3' 'refused  14 place 3' 'refused 14 place 3 ' ' refused 14 place 3' 'Refused 14 place 3' 'place 3' \
     "refused 3 place 0${newline}granted 1 7" "refused 3 place 0${newline}equal" 'grants' 'granted' 'granted x' 'granted 5 7' 'granted 1 7 8' 'granted 01 7' 'granted 1  7' \
-    'granted 1 7 ' ' granted 1 7' 'granted 1 *' "granted 1 7${newline}granted 1 7" 'equal 0' 'equal 1 7' 'equal equal' 'equals' 'Equal' ' equal' 'equal ' \
+    'granted 2 8 7' 'granted 2 7 7' 'granted 1 7 ' ' granted 1 7' 'granted 1 *' "granted 1 7${newline}granted 1 7" 'equal 0' 'equal 1 7' 'equal equal' 'equals' 'Equal' ' equal' 'equal ' \
     "equal${newline}equal" "equal${newline}refused 3 place 0" 'equal refused 3 place 0' '7' '*' ''; do
     known record 2 "$line"
     known exchange 2 "$line"
