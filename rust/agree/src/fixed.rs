@@ -20,6 +20,9 @@ pub const SEED: u64 = 2006;
 pub const CROWDED: u64 = 24;
 pub const LARGEST: u64 = 96;
 
+/// The proved checker finds the signers of more statements than these in another way.
+pub const FEW: usize = 24;
+
 /// Files that are made one by one, by their numbers.
 struct Piece {
     count: u64,
@@ -180,13 +183,13 @@ fn all_short_proofs() -> Vec<Piece> {
 }
 
 /// All lists of up to five statements out of six, with a goal that needs none of them: an order,
-/// and papers of the principals 4,095, 9 (two), 0 and 10. They stand alone, and after a dozen
-/// orders: a checker may find the signers of few statements and of many in different ways.
+/// and papers of the principals 4,095, 9 (two), 0 and 10. They stand alone, and after as many
+/// orders as are few.
 fn all_short_lists() -> [Piece; 2] {
     let papers = [Says(4095, 0), Says(9, 0), Says(0, 0), Says(10, 0), Says(9, 1)];
     let entries = [&[Atom(0)], &papers[..], &[Implies(0, 0)]].concat();
     let table: Vec<(u16, u16)> = entries.into_iter().map(Entry::words).collect();
-    [0, 12].map(|orders| {
+    [0, FEW].map(|orders| {
         let parts = Parts::record(&table, vec![0; orders], 6, vec![IMPLIES_RIGHT, INIT]);
         let make = move |number: u64| {
             let mut parts = parts.clone();

@@ -32,9 +32,9 @@ pub fn small(random: &mut Random, slip: Option<Slip>) -> Parts {
     dressed(random, table, statements, goal, steps)
 }
 
-/// Principals at the edges of decimal lengths, and of groups of 64, by which a checker may keep
-/// them.
-const EDGES: [u16; 12] = [0, 1, 9, 10, 63, 64, 99, 100, 999, 1000, 4032, 4095];
+/// Principals at the edges of decimal lengths, and of groups of 16 and of 64, by which a checker may
+/// keep them.
+const EDGES: [u16; 14] = [0, 1, 9, 10, 15, 16, 63, 64, 99, 100, 999, 1000, 4032, 4095];
 
 /// A small record with papers that nobody needs, by several principals in any order: mostly a few,
 /// now and then as many as there may be statements.
@@ -43,7 +43,7 @@ pub fn signed(random: &mut Random) -> Parts {
     let room = 256 - parts.first.len();
     let papers = match random.below(32) {
         0 => room,
-        1..=4 => random.between(7, 40),
+        1..=4 => random.between(7, 60),
         _ => random.between(2, 6),
     };
     for _ in 0..papers.min(room) {

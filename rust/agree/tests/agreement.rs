@@ -1,10 +1,11 @@
 //! The proved checker and the second one on the fixed set, and what the generators promise.
 use agree::compare::{compared, Answer};
-use agree::fixed::{Fixed, CROWDED, LARGEST, SEED};
+use agree::fixed::{Fixed, CROWDED, FEW, LARGEST, SEED};
 use agree::given::given;
 use agree::parts::Kind;
 use agree::run::{run, STACK};
-use std::thread;
+use std::path::Path;
+use std::{fs, thread};
 
 /// Runs a check on a thread with room for deep trees.
 fn with_stack(check: impl FnOnce() + Send) {
@@ -15,6 +16,15 @@ fn with_stack(check: impl FnOnce() + Send) {
             .expect("a thread starts");
         check.join().expect("the check passes");
     });
+}
+
+/// Else the lists after so many orders would be found in the same way as those that stand alone.
+#[test]
+fn few_statements_are_those_of_collect() {
+    let package = Path::new(env!("CARGO_MANIFEST_DIR"));
+    let source = fs::read_to_string(package.join("../../crates/signers/src/collect.rt"))
+        .expect("the source that writes the signers");
+    assert!(source.contains(&format!("const FEW: usize = {FEW};")));
 }
 
 #[test]
@@ -67,7 +77,7 @@ fn a_seed_makes_the_same_files_everywhere() {
             sum = (sum ^ u64::from(byte)).wrapping_mul(0x100_0000_01b3);
         }
     }
-    assert_eq!(format!("{sum:016x}"), "6bed2289aa596482");
+    assert_eq!(format!("{sum:016x}"), "0f8bab76e01bc05b");
 }
 
 /// "5. An entry has the head and second of an earlier one (place: the first such later entry": the
