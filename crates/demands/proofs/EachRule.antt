@@ -18,5 +18,6 @@ use Rattle.line.specs.RecordLine.{listed, recordLine}
 use Rattle.demands.specs.EachRule.{EachRule}
 
 pub each-rule : EachRule
-unfolding listed recordLine refusedLine ascii decimal digits recordAnswer fileWords fileOf firstRefusal wrongEntry repeatedEntry first into signers run walk step opens holds entries entry
+unfolding listed recordLine refusedLine ascii decimal digits recordAnswer fileWords fileOf firstRefusal wrongEntry
+    repeatedEntry first into signers run walk step opens holds entries entry
 each-rule = refl

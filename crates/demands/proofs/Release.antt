@@ -96,13 +96,16 @@ module _ (file before after : List ℕ) where
     written = l;
   }
 
-  pub granted : (answer : RecordVerdict) → answer ≡ recordAnswer file (length before) → after ≡ listAfter file answer before
+  pub granted : (answer : RecordVerdict) → answer ≡ recordAnswer file (length before)
+      → after ≡ listAfter file answer before
       → Release file (length before) → GrantedWithSigners file answer before after
   granted answer e l r =
       let is : answer ≡ Granted (length (signers file)) = e ∙ granted-exactly file (length before) _ .1 (releases file (length before) r) in
-      subst (λ v. after ≡ listAfter file v before → GrantedWithSigners file v before after) (sym is) (granted-list (r .keeps)) l
+      subst (λ v. after ≡ listAfter file v before → GrantedWithSigners file v before after) (sym is)
+      (granted-list (r .keeps)) l
 
-  pub refused : (answer : RecordVerdict) → answer ≡ recordAnswer file (length before) → after ≡ listAfter file answer before
+  pub refused : (answer : RecordVerdict) → answer ≡ recordAnswer file (length before)
+      → after ≡ listAfter file answer before
       → ¬ Release file (length before) → RefusedUntouched file answer before after
   refused (Granted count) e l none = absurd (none (of-grant file (length before) (sym e)))
   refused (Refused number p) e l none = record {

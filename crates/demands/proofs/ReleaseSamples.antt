@@ -49,7 +49,8 @@ one-seven names all m rising =
 pub grant-of-a : GrantOfA
 grant-of-a answer before after g =
     let each = g .signers .each in
-    let e : g .names ≡ 7 ∷ [] = one-seven (g .names) (λ K m. only-seven K (each K .0 m)) (each 7 .1 seven-says) (g .signers .rising) in (
+    let e : g .names ≡ 7 ∷ [] = one-seven (g .names) (λ K m. only-seven K (each K .0 m)) (each 7 .1 seven-says)
+    (g .signers .rising) in (
       g .granted ∙ ap (λ (l : List ℕ). Granted (length l)) e,
       g .written ∙ ap (λ (l : List ℕ). l ++ drop (length l) before) e,
     )

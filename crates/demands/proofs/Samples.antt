@@ -20,5 +20,6 @@ use Rattle.line.specs.ExchangeLine.{exchangeLine}
 use Rattle.demands.specs.Samples.{MarkedSamples}
 
 pub marked-samples : MarkedSamples
-unfolding listed recordLine refusedLine exchangeLine ascii decimal digits recordAnswer exchangeAnswer fileWords fileOf firstRefusal wrongEntry repeatedEntry first into signers run walk step opens holds entries entry
+unfolding listed recordLine refusedLine exchangeLine ascii decimal digits recordAnswer exchangeAnswer fileWords fileOf
+    firstRefusal wrongEntry repeatedEntry first into signers run walk step opens holds entries entry
 marked-samples = refl

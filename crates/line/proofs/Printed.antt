@@ -52,7 +52,8 @@ module _ (file : List ℕ) where
   of-list room before (Refused number place) e = refl
 
   -- A grant with a list of any length is one with 256 words, with the same count.
-  with-most : (room count : ℕ) → recordAnswer file room ≡ Granted count → recordAnswer file mostStatements ≡ Granted count
+  with-most : (room count : ℕ) → recordAnswer file room ≡ Granted count
+      → recordAnswer file mostStatements ≡ Granted count
   with-most room count e =
       let says = granted-exactly file room count .0 e in
       let few : count ≤ mostStatements = subst Small e (answers-small file room) in
@@ -78,7 +79,8 @@ line-of-grant file before after answer g =
     let e : recordAnswer file (length before) ≡ answer = sym (g .answered) in
     ap (recordLine answer) (g .left)
     ∙ of-list file (length before) before answer e
-    ∙ ap (λ (v : RecordVerdict). recordLine v (signers file)) (g .granted ∙ sym (with-most file (length before) (g .count) (e ∙ g .granted)))
+    ∙ ap (λ (v : RecordVerdict). recordLine v (signers file))
+    (g .granted ∙ sym (with-most file (length before) (g .count) (e ∙ g .granted)))
 
 pub one-line : OneLine
 one-line file before after before′ after′ answer answer′ g h =

@@ -38,7 +38,8 @@ pub record Grants (file before after : List ℕ) (answer : RecordVerdict) : Type
 abbrev pub OneLine : Type 0
 OneLine =
     (file before after before′ after′ : List ℕ) (answer answer′ : RecordVerdict)
-    → Grants file before after answer → Grants file before′ after′ answer′ → recordLine answer after ≡ recordLine answer′ after′
+    → Grants file before after answer → Grants file before′ after′ answer′
+    → recordLine answer after ≡ recordLine answer′ after′
 
 -- which is the one that the program prints.
 abbrev pub LineOfGrant : Type 0
@@ -58,5 +59,4 @@ abbrev pub WholeExchangeLine : Type 0
 WholeExchangeLine =
     (file before : List ℕ) (count : ℕ) (after : List ℕ)
     → count ≡ lineCount before (exchangeLine (exchangeAnswer file)) → after ≡ lineAfter before (exchangeLine (exchangeAnswer file))
-    → mostLine ≤ length before
-    → after ≡ exchangeLine (exchangeAnswer file) ++ drop count before
+    → mostLine ≤ length before → after ≡ exchangeLine (exchangeAnswer file) ++ drop count before

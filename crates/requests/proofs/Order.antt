@@ -26,13 +26,15 @@ signers-rise file before after answer g =
     let says = granted-exactly file (length before) (g .count) .0 (sym (g .answered) ∙ g .granted) in
     let counted = says .counted in
     let are = signers-are (table file) (statements file) in
-    let list : after ≡ signers file ++ drop (g .count) before = g .left ∙ ap (λ v. listAfter file v before) (g .granted) in
+    let list : after ≡ signers file ++ drop (g .count) before = g .left
+    ∙ ap (λ v. listAfter file v before) (g .granted) in
     let names : take (g .count) after ≡ signers file =
     ap (take (g .count)) list
     ∙ ap (λ (n : ℕ). take n (signers file ++ drop (g .count) before)) counted
     ∙ take-append-seam (signers file) (drop (g .count) before) in
     let spelled = signs-spelled (table file) (says .keeps .ordered) (statements file) in (
-      subst (λ l. Signers file l) (sym names) (record { each = λ K. Iff·trans (are .each K) (spelled K); rising = are .rising }),
+      subst (λ l. Signers file l) (sym names)
+          (record { each = λ K. Iff·trans (are .each K) (spelled K); rising = are .rising }),
       ap length names ∙ sym counted,
     )
 
@@ -70,7 +72,8 @@ no-more : (ks js : List ℕ) → EachOnce ks → ks ⊆ js → length ks ≤ len
 no-more [] js once all = omega arith
 no-more (k ∷ ks) js (alone, once) all =
     let rest = without (all k first) in
-    let among : ks ⊆ rest .others = λ a m. rest .keeps a (all a (List·Memᴰ·tail m)) (λ q. alone (Memᴰ·cast (sym q) m)) in
+    let among : ks ⊆ rest .others = λ a m. rest .keeps a (all a (List·Memᴰ·tail m))
+    (λ q. alone (Memᴰ·cast (sym q) m)) in
     omega (arith, rest .one-less, no-more ks (rest .others) once among)
 
 -- In a rising list each stands once.
@@ -83,4 +86,9 @@ count-stays es ns ks each once =
     let found = signers-are es ns in
     let to : ks ⊆ S.signers es ns = λ K m. found .each K .1 (each K .0 m) in
     let from : S.signers es ns ⊆ ks = λ K m. each K .1 (found .each K .0 m) in
-    omega (arith, no-more ks (S.signers es ns) once to, no-more (S.signers es ns) ks (rising-once (S.signers es ns) (found .rising)) from)
+    omega (
+      arith,
+      no-more ks (S.signers es ns) once to,
+      no-more (S.signers es ns) ks
+          (rising-once (S.signers es ns) (found .rising)) from,
+    )

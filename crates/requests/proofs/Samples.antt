@@ -18,5 +18,6 @@ use Rattle.line.specs.RecordLine.{listed, recordLine}
 use Rattle.requests.specs.Samples.{InOrder}
 
 pub in-order : InOrder
-unfolding listed recordLine refusedLine ascii decimal digits recordAnswer fileWords fileOf firstRefusal wrongEntry repeatedEntry first into signers run walk step opens holds entries entry
+unfolding listed recordLine refusedLine ascii decimal digits recordAnswer fileWords fileOf firstRefusal wrongEntry
+    repeatedEntry first into signers run walk step opens holds entries entry
 in-order = refl

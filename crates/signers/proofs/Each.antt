@@ -1,6 +1,6 @@
--- The theorems of specs/Each.antt but NoMoreThanStatements and SignersArePrincipals, which are in Joined.antt. In order:
--- who is listed signs; there is one such list; over propositions they are the principals of what is spelled. Assumes
--- nothing.
+-- The theorems of specs/Each.antt but NoMoreThanStatements and SignersArePrincipals, which are in Joined.antt. In
+-- order: who is listed signs; there is one such list; over propositions they are the principals of what is spelled.
+-- Assumes nothing.
 use Prim.Native.Nat.{ℕ}
 use mathlib.Core.Bool.{false≢true}
 use mathlib.Core.Path.{_≡_, sym, ap, subst, _∙_}
@@ -55,7 +55,8 @@ signers-are es ns = record {
 pub one-list : OneList
 one-list es ns ks are =
     let found = signers-are es ns in
-    one-rising ks (signers es ns) (are .rising) (found .rising) (λ K. Iff·trans (are .each K) (Iff·symm (found .each K)))
+    one-rising ks (signers es ns) (are .rising) (found .rising)
+    (λ K. Iff·trans (are .each K) (Iff·symm (found .each K)))
 
 pub same-signers : SameSigners
 same-signers es first second same =
@@ -69,7 +70,8 @@ same-signers es first second same =
     })
 
 -- With one statement more at the end its own principal is put in.
-pub signers-last : (es : List Entry) (ns : List ℕ) (n : ℕ) → signers es (ns ++ (n ∷ [])) ≡ joined (signers es ns) (entryAt es n)
+pub signers-last : (es : List Entry) (ns : List ℕ) (n : ℕ)
+    → signers es (ns ++ (n ∷ [])) ≡ joined (signers es ns) (entryAt es n)
 signers-last es ns n =
     let found = signers-are es ns in
     sym (one-list es (ns ++ (n ∷ [])) (joined (signers es ns) (entryAt es n)) (record {
@@ -79,7 +81,8 @@ signers-last es ns n =
             (λ i. signs-more (⊆-left (n ∷ [])) (found .each K .0 i))
             (joined-from (signers es ns) (entryAt es n) K m),
         λ s. ⊎-elim
-            (λ i. stays (signers es ns) (entryAt es n) (found .each K .1 (record { statement = s .statement; stands = i; said = s .said; is = s .is })))
+            (λ i. stays (signers es ns) (entryAt es n)
+            (found .each K .1 (record { statement = s .statement; stands = i; said = s .said; is = s .is })))
             (λ i. joins (signers es ns) (s .said, ap (entryAt es) (sym (List·Memᴰ·eq-of-singleton i)) ∙ s .is))
             (List·Memᴰ·append-cases ns (s .stands)),
       );

@@ -58,4 +58,5 @@ SignsSpelled =
 -- Lists of statements with the same members have the same signers: "a statement that stands twice" makes no other.
 abbrev pub SameSigners : Type 0
 SameSigners =
-    (es : List Entry) (first second : List ℕ) → ((n : ℕ) → n ∈ first ↔ n ∈ second) → signers es first ≡ signers es second
+    (es : List Entry) (first second : List ℕ) → ((n : ℕ) → n ∈ first ↔ n ∈ second)
+    → signers es first ≡ signers es second

@@ -19,7 +19,8 @@ returns c =
     let lent = called .before .before .before .before .args .signers .now in
     let file = called .before .before .before .before .args .file .now in (
       c .answer-code .ensures ∙ ap answerCode (called .check-record .ensures .0),
-      called .check-record .ensures .1 ∙ ap (λ (v : RecordVerdict). listAfter file v lent) (called .check-record .ensures .0),
+      called .check-record .ensures .1
+          ∙ ap (λ (v : RecordVerdict). listAfter file v lent) (called .check-record .ensures .0),
     )
 
 pub wethrynda-check-record-spec : {M : Type 1} → statement M

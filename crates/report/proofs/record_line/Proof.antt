@@ -9,7 +9,8 @@ returns c =
     let w = c .before .before in
     let r = w .before .before .before .before in
     let a = r .before .before .before .before .args in
-    printed (a .file .now) (a .line .now) (r .check-record .ensures .0) (r .check-record .ensures .1) (w .write-record-line .ensures)
+    printed (a .file .now) (a .line .now) (r .check-record .ensures .0) (r .check-record .ensures .1)
+    (w .write-record-line .ensures)
 
 pub record-line-spec : {M : Type 1} → statement M
 record-line-spec =
