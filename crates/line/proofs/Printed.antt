@@ -55,12 +55,12 @@ module _ (file : List ℕ) where
   with-most : (room count : ℕ) → recordAnswer file room ≡ Granted count
       → recordAnswer file mostStatements ≡ Granted count
   with-most room count e =
-      let says = granted-exactly file room count .0 e in
+      let grant = granted-exactly file room count .0 e in
       let few : count ≤ mostStatements = subst Small e (answers-small file room) in
-      let counted = says .counted in
+      let counted = grant .counted in
       granted-exactly file mostStatements count .1 (record {
-        keeps = says .keeps;
-        is-proof = says .is-proof;
+        keeps = grant .keeps;
+        is-proof = grant .is-proof;
         fits = omega arith;
         counted = counted;
       })
@@ -77,7 +77,7 @@ line-of-call file before after answer room answered left =
 pub line-of-grant : LineOfGrant
 line-of-grant file before after answer g =
     let e : recordAnswer file (length before) ≡ answer = sym (g .answered) in
-    ap (recordLine answer) (g .left)
+    ap (recordLine answer) (g .list-after)
     ∙ of-list file (length before) before answer e
     ∙ ap (λ (v : RecordVerdict). recordLine v (signers file))
     (g .granted ∙ sym (with-most file (length before) (g .count) (e ∙ g .granted)))

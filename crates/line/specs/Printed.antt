@@ -29,7 +29,7 @@ LineOfCall =
 -- A call that grants a file, whatever list is lent: `answer` and `after` are what the contract of `check_record` says.
 pub record Grants (file before after : List ℕ) (answer : RecordVerdict) : Type 0 where
   pub answered : answer ≡ recordAnswer file (length before)
-  pub left : after ≡ listAfter file answer before
+  pub list-after : after ≡ listAfter file answer before
   pub count : ℕ
   pub granted : answer ≡ Granted count
 

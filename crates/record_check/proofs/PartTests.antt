@@ -15,8 +15,7 @@ use Rattle.basics.specs.Choice.{both}
 use Rattle.basics.specs.Limits.{mostFormulas, mostStatements}
 use Rattle.basics.specs.Refusals.{Test, test, at0, firstRefusal}
 use Rattle.basics.proofs.Asked.{at-most, equal, both-are}
-use Rattle.basics.proofs.Refusals.{applies, goes-on, applies-at-0, goes-on-at-0, none-left}
-use Rattle.basics.proofs.Refusals.{joined-refused, joined-passed}
+use Rattle.basics.proofs.Refusals.{applies, goes-on, applies-at-0, goes-on-at-0, none-left, joined-refused, joined-passed}
 use Rattle.file.specs.Outside.{outside}
 use Rattle.table.specs.Tests.{sized, entryTests, tableTests}
 use Rattle.record_check.specs.Parts.{SizesFitExactly, partTests}

@@ -80,9 +80,9 @@ module _ (file : List ℕ) where
     leaves : (before after : List ℕ) (v : RecordVerdict) → v ≡ recordAnswer file (length before)
         → after ≡ listWritten v (heads file) (seconds file) (statements file) before → after ≡ listAfter file v before
     leaves before after (Granted count) e w =
-        let says = granted-exactly file (length before) count .0 (sym e) in
-        w ∙ written-fits before (signers file) (says .fits)
-        ∙ ap (λ (n : ℕ). signers file ++ drop n before) (sym (says .counted))
+        let grant = granted-exactly file (length before) count .0 (sym e) in
+        w ∙ written-fits before (signers file) (grant .fits)
+        ∙ ap (λ (n : ℕ). signers file ++ drop n before) (sym (grant .counted))
     leaves before after (Refused number place) e w = w
 
     -- so what the code answers over the parts that it took, and leaves in the list

@@ -23,16 +23,16 @@ use Rattle.requests.specs.Order.{SignersRise, OrderNotFree, EachOnce, Co
 
 pub signers-rise : SignersRise
 signers-rise file before after answer g =
-    let says = granted-exactly file (length before) (g .count) .0 (sym (g .answered) ∙ g .granted) in
-    let counted = says .counted in
+    let grant = granted-exactly file (length before) (g .count) .0 (sym (g .answered) ∙ g .granted) in
+    let counted = grant .counted in
     let are = signers-are (table file) (statements file) in
-    let list : after ≡ signers file ++ drop (g .count) before = g .left
+    let list : after ≡ signers file ++ drop (g .count) before = g .list-after
     ∙ ap (λ v. listAfter file v before) (g .granted) in
     let names : take (g .count) after ≡ signers file =
     ap (take (g .count)) list
     ∙ ap (λ (n : ℕ). take n (signers file ++ drop (g .count) before)) counted
     ∙ take-append-seam (signers file) (drop (g .count) before) in
-    let spelled = signs-spelled (table file) (says .keeps .ordered) (statements file) in (
+    let spelled = signs-spelled (table file) (grant .keeps .ordered) (statements file) in (
       subst (λ l. Signers file l) (sym names)
           (record { each = λ K. Iff·trans (are .each K) (spelled K); rising = are .rising }),
       ap length names ∙ sym counted,

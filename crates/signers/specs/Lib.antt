@@ -1,5 +1,5 @@
--- The signers of statements over a table, and samples. Marks is for a private function.
+-- The signers of statements over a table, and samples. Flags is for a private function.
 pub mod Signers
 pub mod Each
-pub mod Marks
+pub mod Flags
 pub mod Samples

@@ -20,7 +20,7 @@ pub const SEED: u64 = 2006;
 pub const CROWDED: u64 = 24;
 pub const LARGEST: u64 = 96;
 
-/// The proved checker finds the signers of more statements than these in another way.
+/// Up to so many statements the proved checker finds the signers in one way, beyond in another.
 pub const FEW: usize = 24;
 
 /// Files that are made one by one, by their numbers.
@@ -41,6 +41,7 @@ impl Fixed {
             pieces.extend(near(&words, kind));
         }
         pieces.extend(all_short_lists());
+        pieces.push(all_signed());
         pieces.push(Piece { count: SEEDED, make: Box::new(|number| given(SEED, number)) });
         for (words, kind) in [(&A[..], Kind::Record), (&K, Kind::Exchange)] {
             pieces.extend((0..words.len()).map(|at| any_word(words, kind, at)));
@@ -204,6 +205,21 @@ fn all_short_lists() -> [Piece; 2] {
         };
         Piece { count: 7 * 7 * 7 * 7 * 7, make: Box::new(make) }
     })
+}
+
+/// Lists of 1 to 256 papers, each of another principal, the highest first: for a lent list with room
+/// for all of them, and with a word less.
+fn all_signed() -> Piece {
+    let make = |number: u64| {
+        let papers = number / 2 + 1;
+        let mut table = vec![Atom(0).words(), Implies(0, 0).words()];
+        table.extend((1..=papers).rev().map(|k| Says((k * 4095 / papers) as u16, 0).words()));
+        let statements = (2..papers as u16 + 2).collect();
+        let parts = Parts::record(&table, statements, 1, vec![IMPLIES_RIGHT, INIT]);
+        let room = (papers - number % 2) as usize;
+        Given { room, to_both: false, ..fixed(Kind::Record, parts.bytes()) }
+    };
+    Piece { count: 2 * 256, make: Box::new(make) }
 }
 
 /// Each kind of file and size of a table, with each way to repeat.

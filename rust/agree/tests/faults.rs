@@ -98,7 +98,7 @@ fn find_all(files: u64, make: impl Fn(u64) -> Given) -> Vec<Option<Found>> {
 /// The fixed set finds each fault, and so do its seeded files alone, without the exhaustive pieces.
 #[test]
 fn the_fixed_set_finds_each_fault() {
-    assert_eq!(FAULTS.len(), 81);
+    assert_eq!(FAULTS.len(), 82);
     let fixed = Fixed::new();
     // a fault that is found by a panic is an error below; the message would only be in the way
     let hook = take_hook();

@@ -114,8 +114,9 @@ fn signers_rise() {
         let signers: BTreeSet<u16> = principals.iter().copied().collect();
         let listed: String = signers.iter().map(|signer| format!(" {signer}")).collect();
         let line = format!("granted {}{listed}", signers.len());
-        // few statements in all, and many
-        for orders in [1, 256 - principals.len()] {
+        // few statements in all, some more, and as many as can be
+        let most = 256 - principals.len();
+        for orders in [1, most.min(2), most] {
             let file = signed(principals, orders);
             for room in [signers.len(), 256, 300] {
                 assert_eq!(record_line(&file, room), line, "{principals:?}, {orders} orders");

@@ -236,12 +236,12 @@ fn signers_rise() {
         (&[4095, 10, 9, 0], &[0, 9, 10, 4095]),
         (&[8, 7, 8], &[7, 8]),
         (&[7, 8, 7], &[7, 8]),
-        (&[128, 64, 127, 63, 64, 128], &[63, 64, 127, 128]),
-        (&[4095, 4032, 4031, 64, 1, 0], &[0, 1, 64, 4031, 4032, 4095]),
+        (&[128, 16, 127, 15, 16, 128], &[15, 16, 127, 128]),
+        (&[4095, 4080, 4079, 16, 1, 0], &[0, 1, 16, 4079, 4080, 4095]),
     ];
     for (principals, signers) in rows {
         // few statements, and as many as can be
-        for orders in [1, 12, 256 - principals.len()] {
+        for orders in [1, 24, 256 - principals.len()] {
             let file = signed(principals, orders);
             let about = format!("{principals:?} after {orders} orders");
             assert_granted(&file, signers.len(), signers, &about);
@@ -252,16 +252,20 @@ fn signers_rise() {
 }
 
 #[test]
-fn as_many_signers_as_can_be() {
-    // atom 0, and what 256 principals say of it, the last of them 4095
-    let principals: Vec<u16> = (0..255).chain([4095]).collect();
-    let mut table = vec![(0, 0)];
-    table.extend(principals.iter().map(|principal| (20480 + principal, 0)));
-    let statements: Vec<u16> = (1..=256).rev().collect();
-    let file = record(&table, &statements, 1, &[40960, 45057, 4096, 0]);
-    assert_granted(&file, 256, &principals, "256 signers");
-    assert_granted(&file, 300, &principals, "256 signers");
-    assert_refused(&file, 255, 8, 0, "256 signers");
+fn as_many_signers_as_statements() {
+    // around those that are few to the check, and as many as can be
+    for count in [23, 24, 25, 256] {
+        // atom 0, and what so many principals say of it, the last of them 4095
+        let principals: Vec<u16> = (0..count - 1).chain([4095]).collect();
+        let mut table = vec![(0, 0)];
+        table.extend(principals.iter().map(|principal| (20480 + principal, 0)));
+        let statements: Vec<u16> = (1..=count).rev().collect();
+        let file = record(&table, &statements, 1, &[40960, 45057, 4096, 0]);
+        let (room, about) = (principals.len(), format!("{count} signers"));
+        assert_granted(&file, room, &principals, &about);
+        assert_granted(&file, 300, &principals, &about);
+        assert_refused(&file, room - 1, 8, 0, &about);
+    }
 }
 
 /// A record of the greatest size, and its signers: 4,096 entries, 256 statements, 16,384 steps.
