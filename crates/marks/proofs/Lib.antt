@@ -1,2 +1,3 @@
 -- The theorems of specs/, and the laws behind the code.
 pub mod Marked
+pub mod Samples

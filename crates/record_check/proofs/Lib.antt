@@ -5,3 +5,4 @@ pub mod StepTest
 pub mod Contents
 pub mod Slices
 pub mod Whole
+pub mod Samples

@@ -22,7 +22,7 @@ use Rattle.record.proofs.LayoutIs.{sized}
 use Rattle.record.proofs.Lengths.{length-heads, length-seconds}
 use Rattle.record.proofs.Granted.{granted-exactly}
 use Rattle.record.proofs.Answered.{answer-refused}
-use Rattle.record_check.specs.Parts.{sizesFit, partTests, roomTest, stepTest, arraysAnswer, listWritten}
+use Rattle.record_check.specs.Parts.{sizesFit, partTests, roomTest, stepTest, arraysAnswer, PartsOfRecord, listWritten}
 use Rattle.record_check.proofs.PartTests.{sizes-fit-exactly}
 
 module _ (file : List ℕ) where
@@ -97,3 +97,6 @@ module _ (file : List ℕ) where
         let two : after ≡ listWritten v (heads file) (seconds file) (statements file) before = left ∙ (λ i. listWritten v (eh i) (es i) (en i) before) in
         let is = one ∙ answers (length before) in
         (is, leaves before after v is two)
+
+pub parts-of-record : PartsOfRecord
+parts-of-record file s room = answers file s room

@@ -1,5 +1,5 @@
 -- What the parts of the check answer, over arrays of any length: 2 and 4 to 7, 8, 9 to 15, and all of them in order.
--- Over the arrays of a file that 1 to 3 let pass this is `recordAnswer`. Assumes nothing.
+-- Assumes nothing.
 use Prim.Native.Nat.{ℕ, _≤_}
 use mathlib.Core.Bool.{Bool, true, not}
 use mathlib.Core.Path.{_≡_}
@@ -19,6 +19,9 @@ use Rattle.steps.specs.Figure1.{run}
 use Rattle.signers.specs.Signers.{signers}
 use Rattle.record.specs.declared.verdict.RecordVerdict.{RecordVerdict}
 use Rattle.record.specs.declared.verdict.RecordVerdict.the-variants.{Granted, Refused}
+use Rattle.record.specs.Layout.{goal, heads, seconds, statements, steps}
+use Rattle.record.specs.Answer.{recordAnswer}
+use Rattle.record.specs.Proof.{Sized}
 
 -- "2. F, S or N is outside its range (place 0)." (01) This is asked of F and S. "A table lent as two arrays of unlike
 -- length meets 2."
@@ -69,6 +72,12 @@ arraysAnswer heads seconds statements goal steps room =
     (partTests heads seconds statements goal
     ++ (roomTest heads seconds statements room ∷ stepTest heads seconds statements goal steps ∷ [])))
     (granted heads seconds statements)
+
+-- Over the arrays of a file that 1 to 3 let pass these are the record's own tests. Proved in proofs/Whole.antt.
+abbrev pub PartsOfRecord : Type 0
+PartsOfRecord =
+    (file : List ℕ) → Sized file → (room : ℕ)
+    → arraysAnswer (heads file) (seconds file) (statements file) (goal file) (steps file) room ≡ recordAnswer file room
 
 -- what is then in the lent list
 abbrev pub listWritten : RecordVerdict → List ℕ → List ℕ → List ℕ → List ℕ → List ℕ

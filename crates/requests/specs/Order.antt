@@ -1,5 +1,5 @@
--- "Signers shall stand in rising principal number. Their order is then no longer a free part" (02, job 1). Proved in
--- proofs/Order.antt. Assumes nothing.
+-- "Signers shall stand in rising principal number. Their order is then no longer a free part, and a granted record has
+-- one possible line." (02, job 1) Proved in proofs/Order.antt. Assumes nothing.
 use Prim.Native.Nat.{ℕ}
 use mathlib.Core.Path.{_≡_}
 use mathlib.Core.Logic.{_↔_}
@@ -10,8 +10,11 @@ use Rattle.table.specs.declared.entry.Entry.{Entry}
 use Rattle.signers.specs.Signers.{signers}
 use Rattle.signers.specs.Each.{Signs}
 use Rattle.record.specs.declared.verdict.RecordVerdict.{RecordVerdict}
+use Rattle.record.specs.Answer.{recordAnswer}
+use Rattle.record.specs.ListAfter.{listAfter}
+use Rattle.line.specs.RecordLine.{recordLine}
 use Rattle.line.specs.Printed.{Grants}
-use Rattle.demands.specs.Release.{Signers}
+use Rattle.demands.specs.Release.{Signers, Release, GrantedWithSigners}
 
 -- A call that grants a file with a count leaves so many words at the start of the list, and these are the signers in
 -- rising number, whatever list is lent.
@@ -20,15 +23,33 @@ SignersRise =
     (file before after : List ℕ) (answer : RecordVerdict) (g : Grants file before after answer)
     → Signers file (take (g .count) after) × (length (take (g .count) after) ≡ g .count)
 
--- No two lists are a file's signers.
+-- Every call on a release is such a call.
+abbrev pub ReleaseGrants : Type 0
+ReleaseGrants =
+    (file before after : List ℕ) (answer : RecordVerdict)
+    → answer ≡ recordAnswer file (length before) → after ≡ listAfter file answer before
+    → Release file (length before) → Grants file before after answer
+
+-- No two lists are a file's signers,
 abbrev pub OrderNotFree : Type 0
 OrderNotFree = (file names others : List ℕ) → Signers file names → Signers file others → names ≡ others
 
--- What stays: 01 asked for the signers "each once, in any order". In any order there are as many, so that no answer, no
--- refusal and no place is another.
+-- so whatever grants a file with its signers, as demand 1 has it, whoever it is and whatever list is lent, has the same
+-- line.
+abbrev pub OnePossibleLine : Type 0
+OnePossibleLine =
+    (file before after before′ after′ : List ℕ) (answer answer′ : RecordVerdict)
+    → GrantedWithSigners file answer before after → GrantedWithSigners file answer′ before′ after′
+    → recordLine answer after ≡ recordLine answer′ after′
+
+-- What stays: 01 asked for the signers "each once, in any order". In any order there are as many, so the count that 8
+-- and a grant speak of is 01's.
 abbrev pub EachOnce : List ℕ → Type 0
 EachOnce [] = Unit
 EachOnce (k ∷ ks) = (¬ (k ∈ ks)) × EachOnce ks
+
+abbrev pub EachOnceIs : Type 0
+EachOnceIs = EachOnce (8 ∷ 7 ∷ 9 ∷ []) × (¬ EachOnce (7 ∷ 8 ∷ 7 ∷ []))
 
 abbrev pub CountStays : Type 0
 CountStays =
