@@ -49,8 +49,8 @@ fn exchange_code(verdict: ExchangeVerdict) -> u64
 }
 
 // The check of a record, as one number: the count of signers, or a refusal's number × 2^32 + its place. What is lent is
-// left as `check_record` leaves it: signers, rising, from the start of the list on a grant, nothing changed on a refusal.
-// In C a slice is a pointer and then a length.
+// left as `check_record` leaves it: signers, rising, from the start of the list on a grant, nothing changed on a
+// refusal. In C a slice is a pointer and then a length.
 #[no_mangle]
 pub extern "C" fn wethrynda_check_record(file: &[u8], signers: &mut [u16]) -> u64
     ensures { λ r. ⌜ r ≡ answerCode (recordAnswer (now (file .entry)) (length (now (signers .entry)))) ⌝ }

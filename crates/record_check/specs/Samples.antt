@@ -1,9 +1,8 @@
--- Samples of the parts over arrays that no file has: what `judge_parts`, `judge_room` and `judge_steps` answer for them.
+-- Samples of the parts: what `judge_parts`, `judge_room` and `judge_steps` answer, also for arrays that no file has.
 -- Proved in proofs/Samples.antt, by computation. Assumes nothing.
 use mathlib.Core.Path.{_≡_}
-use mathlib.Core.List.{List, [], _∷_, map}
+use mathlib.Core.List.{[], _∷_, map}
 use lib.ListN.{replicate}
-use Rattle.basics.specs.declared.tested.Tested.{Tested}
 use Rattle.basics.specs.declared.tested.Tested.the-variants.{Passed, Refused}
 use Rattle.basics.specs.Refusals.{firstRefusal}
 use Rattle.record_check.specs.Parts.{partTests, roomTest, stepTest}
