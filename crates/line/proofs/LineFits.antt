@@ -32,7 +32,7 @@ listed-fits (suc count) (k ∷ ks) h =
     )
 
 -- a refusal's number has 2 digits and its place 5,
-refused-fits : (number place : ℕ) → number ≤ 15 → place ≤ mostSteps → length (refusedLine number place) ≤ 23
+pub refused-fits : (number place : ℕ) → number < 100 → place ≤ mostSteps → length (refusedLine number place) ≤ 23
 unfolding ascii refusedLine
 refused-fits number place few within =
     let text : List ℕ = ascii "refused " ++ decimal number in
@@ -59,10 +59,10 @@ line-fits (Granted count) ks s h =
       length-append text (listed (take count ks)),
       length-append (ascii "granted ") (decimal count),
     )
-line-fits (Refused number place) ks s h = omega (arith, refused-fits number place (s .1) (s .2))
+line-fits (Refused number place) ks s h = omega (arith, refused-fits number place (omega (arith, s .1)) (s .2))
 
 -- `equal` and its line feed have 6 bytes.
 pub exchange-line-fits : ExchangeLineFits
 unfolding ascii exchangeLine
 exchange-line-fits Equal s = omega arith
-exchange-line-fits (ExchangeRefused number place) s = omega (arith, refused-fits number place (s .1) (s .2))
+exchange-line-fits (ExchangeRefused number place) s = omega (arith, refused-fits number place (omega (arith, s .1)) (s .2))

@@ -95,7 +95,7 @@ are-words file k m =
     let l = signers-are-principals (heads file) (seconds file) (statements file) k signs in omega arith
 
 -- A line that fits is written whole.
-fits-whole : (before line : List ℕ) {count : ℕ} {after : List ℕ} → length line ≤ length before
+pub fits-whole : (before line : List ℕ) {count : ℕ} {after : List ℕ} → length line ≤ length before
     → count ≡ lineCount before line → after ≡ lineAfter before line → after ≡ line ++ drop count before
 fits-whole before line fits counted is =
     let room : leb (length line) (length before) ≡ true = le-leb _ _ fits in

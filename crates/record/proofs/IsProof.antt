@@ -17,8 +17,9 @@ use Rattle.steps.specs.declared.verdict.WalkVerdict.the-variants.{Closed}
 use Rattle.steps.specs.Obligation.{Obligation, obligation}
 use Rattle.steps.specs.Words.{words}
 use Rattle.steps.specs.Carried.{InTable}
-use Rattle.steps.specs.Figure1.{Carried}
-use Rattle.steps.proofs.Figure1.{runs-are-derivations}
+use Rattle.steps.specs.Trace.{lines}
+use Rattle.steps.specs.Figure1.{Carried, trace}
+use Rattle.steps.proofs.Figure1.{runs-are-derivations, trace-is-derivations}
 use Rattle.record.specs.Layout.{goal, heads, seconds, statements, steps, table}
 use Rattle.record.specs.Answer.{stepVerdict}
 use Rattle.record.specs.Proof.{Keeps, IsProof}
@@ -57,3 +58,10 @@ module _ (file : List ℕ) where
     closes-on-proof =
         let (to, from) = runs-are-derivations (heads file) (seconds file) table-passes (obligation (statements file) (goal file) ∷ []) in-table (steps file) in
         (λ e. is-carried .0 (to e), λ p. from (is-carried .1 p))
+
+    -- The trace of its steps is the lines of that derivation.
+    pub lines-of-proof : (p : IsProof file) → trace (table file) (steps file) (obligation (statements file) (goal file) ∷ []) ≡ lines (p .derivation)
+    unfolding is-carried
+    lines-of-proof p =
+        trace-is-derivations (heads file) (seconds file) table-passes (obligation (statements file) (goal file) ∷ []) in-table (steps file) (is-carried .1 p)
+        ∙ append-nil (lines (p .derivation))

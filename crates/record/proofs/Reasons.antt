@@ -89,11 +89,11 @@ module _ (file : List ℕ) (room number p : ℕ) where
       (⊎-elim (λ h. table-broken (entry-reasons (heads file) (seconds file) number p .1 h)) from-6-reason)
       (joined .0 one)
 
-  reasons : Reason file room number p ↔ OneApplies (tests file room) number p
+  pub reasons : Reason file room number p ↔ OneApplies (tests file room) number p
   reasons = (from-reason, to-reason)
 
 -- The tests stand in the checking order.
-follows : (file : List ℕ) (room : ℕ) → Follows checkingOrder (tests file room)
+pub follows : (file : List ℕ) (room : ℕ) → Follows checkingOrder (tests file room)
 follows file room =
     let range : (n p : ℕ) → stepVerdict file ≡ Walk.Refused n p → (9 ≤ n) × (n ≤ 15) = λ n p e. let (l, m, _) = step-number file n p e in (l, m) in
     let from-9 = walked-follows (stepVerdict file) range in

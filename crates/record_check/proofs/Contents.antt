@@ -1,4 +1,4 @@
--- 2 and 4 to 15 in one: each answer of the code is a case of `arraysAnswer`. Assumes nothing.
+-- 2 and 4 to 15 in one: each answer of the code is a case of `contentTests`, and so of `arraysAnswer`. Assumes nothing.
 use Prim.Native.Nat.{ℕ}
 use mathlib.Core.Path.{_≡_, sym, ap, _∙_}
 use mathlib.Core.List.{List, [], _∷_}
@@ -8,11 +8,11 @@ use Rattle.basics.specs.Refusals.{Test, firstRefusal, unlessRefused}
 use Rattle.basics.proofs.Refusals.{joined-refused, joined-passed}
 use Rattle.record.specs.declared.verdict.RecordVerdict.{RecordVerdict}
 use Rattle.record.specs.declared.verdict.RecordVerdict.the-variants.{Refused}
-use Rattle.record_check.specs.Parts.{partTests, roomTest, stepTest, granted, arraysAnswer}
+use Rattle.record_check.specs.Parts.{partTests, roomTest, stepTest, contentTests, granted, arraysAnswer}
 
 module _ (heads seconds statements : List ℕ) (goal : ℕ) (steps : List ℕ) (room : ℕ) where
-  abbrev all : RecordVerdict
-  all = arraysAnswer heads seconds statements goal steps room
+  abbrev all : Tested
+  all = firstRefusal (contentTests heads seconds statements goal steps room)
 
   abbrev to-7 : List Test
   to-7 = partTests heads seconds statements goal
@@ -26,27 +26,28 @@ module _ (heads seconds statements : List ℕ) (goal : ℕ) (steps : List ℕ) (
   abbrev from-8 : List Test
   from-8 = roomTest heads seconds statements room ∷ from-9
 
-  -- what the tests come to, as an answer
+  module _ {t : Tested} (parts : t ≡ firstRefusal to-7) where
+    pub refused-to-7 : {number p : ℕ} → t ≡ Outcome.Refused number p → Outcome.Refused number p ≡ all
+    refused-to-7 e = sym (joined-refused to-7 from-8 (sym parts ∙ e))
+
+    module _ (passed-7 : t ≡ Outcome.Passed) {u : Tested} (listed : u ≡ firstRefusal only-8) where
+      after-7 : firstRefusal from-8 ≡ all
+      after-7 = sym (joined-passed to-7 from-8 (sym parts ∙ passed-7))
+
+      pub refused-8 : {number p : ℕ} → u ≡ Outcome.Refused number p → Outcome.Refused number p ≡ all
+      refused-8 e = sym (joined-refused only-8 from-9 (sym listed ∙ e)) ∙ after-7
+
+      pub by-steps : {v : Tested} → u ≡ Outcome.Passed → v ≡ firstRefusal from-9 → v ≡ all
+      by-steps passed-8 walked = walked ∙ sym (joined-passed only-8 from-9 (sym listed ∙ passed-8)) ∙ after-7
+
+  -- what they come to, as an answer
   abbrev answer : Tested → RecordVerdict
   answer t = unlessRefused Refused t (granted heads seconds statements)
 
-  module _ {t : Tested} (parts : t ≡ firstRefusal to-7) where
-    pub refused-to-7 : {number p : ℕ} → t ≡ Outcome.Refused number p → Refused number p ≡ all
-    refused-to-7 e = ap answer (sym (joined-refused to-7 from-8 (sym parts ∙ e)))
+  module _ {t : Tested} (judged : t ≡ all) where
+    pub refused-by-one : {number p : ℕ} → t ≡ Outcome.Refused number p → Refused number p ≡ arraysAnswer heads seconds statements goal steps room
+    refused-by-one e = ap answer (sym e ∙ judged)
 
-    module _ (passed-7 : t ≡ Outcome.Passed) {u : Tested} (listed : u ≡ firstRefusal only-8) where
-      after-7 : answer (firstRefusal from-8) ≡ all
-      after-7 = ap answer (sym (joined-passed to-7 from-8 (sym parts ∙ passed-7)))
-
-      pub refused-8 : {number p : ℕ} → u ≡ Outcome.Refused number p → Refused number p ≡ all
-      refused-8 e = ap answer (sym (joined-refused only-8 from-9 (sym listed ∙ e))) ∙ after-7
-
-      module _ (passed-8 : u ≡ Outcome.Passed) {v : Tested} (walked : v ≡ firstRefusal from-9) where
-        after-8 : answer v ≡ all
-        after-8 = ap answer (walked ∙ sym (joined-passed only-8 from-9 (sym listed ∙ passed-8))) ∙ after-7
-
-        pub refused-to-15 : {number p : ℕ} → v ≡ Outcome.Refused number p → Refused number p ≡ all
-        refused-to-15 e = ap answer (sym e) ∙ after-8
-
-        pub granted-by-all : {w : RecordVerdict} → v ≡ Outcome.Passed → w ≡ granted heads seconds statements → w ≡ all
-        granted-by-all e is = is ∙ ap answer (sym e) ∙ after-8
+    pub granted-by-all : {w : RecordVerdict} → t ≡ Outcome.Passed → w ≡ granted heads seconds statements
+        → w ≡ arraysAnswer heads seconds statements goal steps room
+    granted-by-all e is = is ∙ ap answer (sym e ∙ judged)

@@ -60,6 +60,12 @@ abbrev pub stepTest : List ℕ → List ℕ → List ℕ → ℕ → List ℕ �
 stepTest heads seconds statements goal steps =
     walked (run (entries heads seconds) steps (obligation statements goal ∷ []))
 
+-- all of them, in order
+abbrev pub contentTests : List ℕ → List ℕ → List ℕ → ℕ → List ℕ → ℕ → List Test
+contentTests heads seconds statements goal steps room =
+    partTests heads seconds statements goal
+    ++ (roomTest heads seconds statements room ∷ stepTest heads seconds statements goal steps ∷ [])
+
 -- where no test refuses: granted, with the number of signers
 abbrev pub granted : List ℕ → List ℕ → List ℕ → RecordVerdict
 granted heads seconds statements = Granted (length (signers (entries heads seconds) statements))
@@ -67,11 +73,7 @@ granted heads seconds statements = Granted (length (signers (entries heads secon
 -- 2 and 4 to 15
 abbrev pub arraysAnswer : List ℕ → List ℕ → List ℕ → ℕ → List ℕ → ℕ → RecordVerdict
 arraysAnswer heads seconds statements goal steps room =
-    unlessRefused Refused
-    (firstRefusal
-    (partTests heads seconds statements goal
-    ++ (roomTest heads seconds statements room ∷ stepTest heads seconds statements goal steps ∷ [])))
-    (granted heads seconds statements)
+    unlessRefused Refused (firstRefusal (contentTests heads seconds statements goal steps room)) (granted heads seconds statements)
 
 -- Over the arrays of a file that 1 to 3 let pass these are the record's own tests. Proved in proofs/Whole.antt.
 abbrev pub PartsOfRecord : Type 0

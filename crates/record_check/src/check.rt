@@ -6,9 +6,7 @@ ghost use Rattle.record.specs.Answer.{recordAnswer};
 ghost use Rattle.record.specs.ListAfter.{listAfter};
 ghost use Rattle.record.specs.Proof.{Sized};
 ghost use Rattle.record_check.specs.Parts.{granted, arraysAnswer, listWritten};
-use crate::judge::judge_parts;
-use crate::judge::judge_room;
-use crate::judge::judge_steps;
+use crate::judge::judge_contents;
 use crate::layout::MOST_WORDS;
 use crate::layout::check_layout;
 use basics::tested::Tested;
@@ -40,23 +38,13 @@ fn check_contents(
     ensures { λ r. ⌜ r ≡ arraysAnswer (now (heads .entry)) (now (seconds .entry)) (now (statements .entry)) goal (now (steps .entry)) (length (now (signers .entry))) ⌝ }
     ensures { λ r. ⌜ now (signers .exit) ≡ listWritten r (now (heads .entry)) (now (seconds .entry)) (now (statements .entry)) (now (signers .entry)) ⌝ }
 {
-    if let Tested::Refused { number, place } = judge_parts(heads, seconds, statements, goal) {
-        return RecordVerdict::Refused { number, place };
-    }
-    if let Tested::Refused { number, place } = judge_room(
-        heads,
-        seconds,
-        statements,
-        signers.len(),
-    ) {
-        return RecordVerdict::Refused { number, place };
-    }
-    if let Tested::Refused { number, place } = judge_steps(
+    if let Tested::Refused { number, place } = judge_contents(
         heads,
         seconds,
         statements,
         goal,
         steps,
+        signers.len(),
     ) {
         return RecordVerdict::Refused { number, place };
     }

@@ -1,9 +1,9 @@
-// The tests of a record over its arrays: 2 and 4 to 7, 8, 9 to 15. They write nothing and take arrays of any length, so
-// a call can make them in its own order, with its own tests between.
+// The tests of a record over its arrays: 2 and 4 to 7, 8, 9 to 15, and all of them. They write nothing and take arrays
+// of any length, so a call can make them in its own order, with its own tests between or after.
 ghost use mathlib.Core.Path.{_≡_};
 ghost use mathlib.Core.List.{[], _∷_};
 ghost use Rattle.basics.specs.Refusals.{firstRefusal};
-ghost use Rattle.record_check.specs.Parts.{partTests, roomTest, stepTest};
+ghost use Rattle.record_check.specs.Parts.{partTests, roomTest, stepTest, contentTests};
 use basics::limits::MOST_STATEMENTS;
 use basics::place::Place;
 use basics::tested::Tested;
@@ -79,4 +79,24 @@ pub fn judge_steps(
         }
         WalkVerdict::Refused { number, place } => Tested::Refused { number, place },
     }
+}
+
+// All of them, in order: 2 and 4 to 15, of a list of so many words.
+pub fn judge_contents(
+    heads: &[u16],
+    seconds: &[u16],
+    statements: &[u16],
+    goal: u16,
+    steps: &[u16],
+    room: usize,
+) -> Tested
+    ensures { λ r. ⌜ r ≡ firstRefusal (contentTests (now (heads .entry)) (now (seconds .entry)) (now (statements .entry)) goal (now (steps .entry)) room) ⌝ }
+{
+    if let Tested::Refused { number, place } = judge_parts(heads, seconds, statements, goal) {
+        return Tested::Refused { number, place };
+    }
+    if let Tested::Refused { number, place } = judge_room(heads, seconds, statements, room) {
+        return Tested::Refused { number, place };
+    }
+    judge_steps(heads, seconds, statements, goal, steps)
 }

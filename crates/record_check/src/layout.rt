@@ -13,7 +13,7 @@ use file::numbers::fits_and;
 use file::words::word_at;
 
 // "The length is 2 × (4 + 2F + S + N) bytes, at most 49,672." (01)
-pub(crate) const MOST_WORDS: usize = 4 + 2 * MOST_FORMULAS + MOST_STATEMENTS + MOST_STEPS;
+pub const MOST_WORDS: usize = 4 + 2 * MOST_FORMULAS + MOST_STATEMENTS + MOST_STEPS;
 
 const MOST_BYTES: usize = 2 * MOST_WORDS;
 
@@ -27,7 +27,7 @@ pub fn file_buffer() -> [u8; MOST_BYTES + 1]
 
 // 1 to 3. "Sizes come first: F formulas (1 to 4,096), S statements (0 to 256), N steps (1 to 16,384), and the goal's
 // formula number", of which nothing is asked here.
-pub(crate) fn check_layout(file: &[u8]) -> Tested
+pub fn check_layout(file: &[u8]) -> Tested
     ensures { λ r. ⌜ r ≡ firstRefusal (layoutTests recordLayout (now (file .entry))) ⌝ }
 {
     let formulas = word_at(file, 0) as usize;

@@ -1,0 +1,1 @@
+-- The theorems whose statements are in specs/, and the proofs of the functions.

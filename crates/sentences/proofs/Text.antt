@@ -1,0 +1,45 @@
+-- A granted record's text is that of the derivation that its words are, and two of them are equal exactly when goals,
+-- rules and named formulas are the same (specs/Promises.antt). Assumes nothing.
+use mathlib.Core.Path.{_≡_, sym, ap, _∙_}
+use mathlib.Core.List.{List, map}
+use Prim.Native.Nat.{ℕ}
+use Rattle.logic.specs.Proposition.{Proposition, false}
+use Rattle.logic.specs.Judgment.{Judgment, truth, _affirms_}
+use Rattle.steps.specs.Trace.{Line}
+use Rattle.record.specs.Proof.{goalOf, IsProof}
+use Rattle.record.proofs.IsProof.{lines-of-proof}
+use Rattle.sentences.specs.Sentences.{sentences}
+use Rattle.sentences.specs.Promises.{proofLines, TextOfDerivation, ruleApplied, SameProof, SameText}
+use Rattle.sentences.proofs.Told.{sentences-told}
+use Rattle.sentences.proofs.Lines.{goals, firstOr, known, first-goal, determined}
+
+pub text-of-derivation : TextOfDerivation
+text-of-derivation file keeps p = ap sentences (lines-of-proof file keeps p)
+
+proved : Judgment → Proposition
+proved (truth A) = A
+proved (K affirms A) = A
+
+-- The first line has the record's goal.
+goal-told : {file other : List ℕ} (p : IsProof file) (q : IsProof other) → proofLines p ≡ proofLines q → goalOf file ≡ goalOf other
+unfolding proved
+goal-told p q e =
+    ap proved
+    (sym (first-goal (p .derivation) (truth false))
+    ∙ ap (λ (ls : List Line). firstOr (truth false) (goals ls)) e
+    ∙ first-goal (q .derivation) (truth false))
+
+pub same-text : SameText
+same-text file other room room′ count count′ g h =
+    let p = g .is-proof in
+    let q = h .is-proof in
+    let text = text-of-derivation file (g .keeps) p in
+    let text′ = text-of-derivation other (h .keeps) q in (
+      λ e.
+          let same = sentences-told (proofLines p) (proofLines q) (known (p .derivation)) (known (q .derivation)) (sym text ∙ e ∙ text′) in
+          record { same-goal = goal-told p q same; same-steps = ap (map ruleApplied) same },
+      λ s.
+          text
+          ∙ ap sentences (determined (p .derivation) (q .derivation) (ap truth (s .same-goal)) (s .same-steps))
+          ∙ sym text′,
+    )

@@ -1,0 +1,92 @@
+-- What is promised of a record's proof in sentences (02, job 2). Each is proved in proofs/ under its name in small
+-- letters. Assumes nothing.
+use Prim.Native.Nat.{ℕ, suc, _≤_, _<_}
+use mathlib.Core.Path.{_≡_}
+use mathlib.Core.Logic.{_↔_}
+use mathlib.Core.Option.{Option}
+use mathlib.Core.List.{List, [], _∷_, _++_, map}
+use lib.ListN.{length, take}
+use Rattle.basics.specs.Limits.{mostStatements, mostSteps}
+use Rattle.basics.specs.Order.{FirstReason, checkingOrder}
+use Rattle.logic.specs.Proposition.{Proposition}
+use Rattle.steps.specs.Trace.{Line, lines}
+use Rattle.record.specs.Layout.{mostBytes}
+use Rattle.record.specs.Proof.{Keeps, goalOf, IsProof}
+use Rattle.record.specs.Reasons.{Reason}
+use Rattle.record.specs.Promises.{GrantSays}
+use Rattle.sentences.specs.declared.verdict.SentencesVerdict.{SentencesVerdict}
+use Rattle.sentences.specs.declared.verdict.SentencesVerdict.the-variants.{Written, Refused}
+use Rattle.sentences.specs.Sentences.{sentences}
+use Rattle.sentences.specs.Answer.{recordText, sentencesAnswer}
+
+-- ---- the text
+
+-- the lines of the derivation that a file's words are, and its text
+abbrev pub proofLines : {file : List ℕ} → IsProof file → List Line
+proofLines p = lines (p .derivation)
+
+abbrev pub proofText : {file : List ℕ} → IsProof file → List ℕ
+proofText p = sentences (proofLines p)
+
+-- "Write a granted record's proof as text": its text is that of the derivation that its words are.
+abbrev pub TextOfDerivation : Type 0
+TextOfDerivation = (file : List ℕ) → Keeps file → (p : IsProof file) → recordText file ≡ proofText p
+
+-- the rule of a line, and the formula that it names, if any
+abbrev pub ruleApplied : Line → ℕ × Option Proposition
+ruleApplied l = (l .code, l .named)
+
+-- "their goals are the same formula and their steps apply the same rules to the same formulas, whichever numbers the
+-- tables use"
+pub record SameProof {file other : List ℕ} (p : IsProof file) (q : IsProof other) : Type 0 where
+  pub same-goal : goalOf file ≡ goalOf other
+  pub same-steps : map ruleApplied (proofLines p) ≡ map ruleApplied (proofLines q)
+
+-- "Two granted records have equal texts only if" this is so; and if it is, they have. The rules and what they name
+-- determine the goals of all steps.
+abbrev pub SameText : Type 0
+SameText =
+    (file other : List ℕ) (room room′ count count′ : ℕ) (g : GrantSays file room count) (h : GrantSays other room′ count′)
+    → recordText file ≡ recordText other ↔ SameProof (g .is-proof) (h .is-proof)
+
+-- ---- the answer
+
+-- What a written text says: the record is granted, and the text of its derivation fits the bytes lent for it.
+pub record WrittenSays (file : List ℕ) (room bytes count written : ℕ) : Type 0 where
+  pub grant : GrantSays file room count
+  pub fits : length (proofText (grant .is-proof)) ≤ bytes
+  pub counted : written ≡ length (proofText (grant .is-proof))
+
+abbrev pub WrittenExactly : Type 0
+WrittenExactly =
+    (file : List ℕ) (room bytes count written : ℕ)
+    → sentencesAnswer file room bytes ≡ Written count written ↔ WrittenSays file room bytes count written
+
+-- "Refused: 16, after 15, the lent bytes are fewer than the whole text; place 0."
+abbrev pub sentencesOrder : List ℕ
+sentencesOrder = checkingOrder ++ (16 ∷ [])
+
+-- A reason to refuse: one of the record's (record/specs/Reasons.antt), or 16.
+pub data SentencesReason (file : List ℕ) (room bytes number p : ℕ) : Type 0 where
+  of-record : Reason file room number p → SentencesReason file room bytes number p
+  text-short : number ≡ 16 → p ≡ 0 → bytes < length (recordText file) → SentencesReason file room bytes number p
+
+-- Every other file is refused by the first reason in the order that applies, with its place.
+abbrev pub RefusedExactly : Type 0
+RefusedExactly =
+    (file : List ℕ) (room bytes number p : ℕ)
+    → sentencesAnswer file room bytes ≡ Refused number p ↔ FirstReason sentencesOrder (SentencesReason file room bytes) number p
+
+-- How large an answer can be, where so many bytes are lent.
+abbrev pub Small : ℕ → SentencesVerdict → Type 0
+Small bytes (Written count written) = (count ≤ mostStatements) × (written ≤ bytes)
+Small bytes (Refused number p) = (1 ≤ number) × (number ≤ 16) × (p ≤ mostSteps)
+
+abbrev pub AnswersSmall : Type 0
+AnswersSmall = (file : List ℕ) (room bytes : ℕ) → Small bytes (sentencesAnswer file room bytes)
+
+-- A file longer than the longest record has the answer of its first bytes, one more than the longest record has.
+abbrev pub LongerFile : Type 0
+LongerFile =
+    (file : List ℕ) (room bytes : ℕ) → mostBytes < length file
+    → sentencesAnswer file room bytes ≡ sentencesAnswer (take (suc mostBytes) file) room bytes
