@@ -1,1 +1,2 @@
 -- The theorems whose statements are in specs/, and the proofs of the functions.
+pub mod Goals

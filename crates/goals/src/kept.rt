@@ -9,6 +9,11 @@ use table::entry::Entry;
 use table::entry::entry_at;
 use table::entry::goal_formula;
 
+pub struct Kept {
+    pub number: u16,
+    pub affirms: u16,
+}
+
 // The goal that is kept so. A word that asks for an affirmation where the formula is no says-formula counts as 0.
 pub fn goal_at(heads: &[u16], seconds: &[u16], number: u16, affirms: u16) -> Goal
     ensures { λ r. ⌜ r ≡ goalAt (entries (now (heads .entry)) (now (seconds .entry))) number affirms ⌝ }
