@@ -2,3 +2,4 @@
 -- `steps` (Trace.antt).
 pub mod Kept
 pub mod Goals
+pub mod Samples
