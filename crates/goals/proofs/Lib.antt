@@ -1,3 +1,5 @@
 -- The theorems whose statements are in specs/, and the proofs of the functions.
-pub mod Goals
+pub mod Trace
 pub mod Samples
+pub mod Stack
+pub mod Written

@@ -1,5 +1,5 @@
 -- The goal of each step of a proof, found from the steps alone once they have passed their tests: no hypotheses are
--- looked up again. Proved in proofs/Goals.antt. Assumes nothing.
+-- looked up again. Proved in proofs/Trace.antt. Assumes nothing.
 use Prim.Native.Nat.{ℕ}
 use mathlib.Core.Bool.{true}
 use mathlib.Core.Path.{_≡_}

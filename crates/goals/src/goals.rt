@@ -1,0 +1,169 @@
+// The goal of each step of a proof whose steps have passed their tests, found by one pass over the steps: no hypotheses
+// are looked up again.
+ghost use mathlib.Core.Bool.{Bool};
+ghost use mathlib.Core.Path.{_≡_};
+ghost use Rattle.basics.specs.Written.{written};
+ghost use Rattle.table.specs.Tests.{entries};
+ghost use Rattle.rules.specs.Premises.{opened};
+ghost use Rattle.goals.specs.Goals.{keptAs, goalsOf, numbersOf, affirmsOf};
+ghost use Rattle.goals.specs.Next.{isRefused, countOf, firstKept, lastKept};
+use crate::kept::Kept;
+use crate::kept::goal_at;
+use basics::limits::MOST_DEPTH;
+use basics::list::put;
+use basics::word::lower;
+use basics::word::upper;
+use rules::premises::Premises;
+use rules::step::apply;
+use steps::goal::Goal;
+use table::entry::Formula;
+
+// Keeps a truth.
+fn keep_truth(f: Formula) -> Kept
+    ensures { λ r. ⌜ r ≡ keptAs 0 (Goal.True f) ⌝ }
+{
+    Kept {
+        number: f.0,
+        affirms: 0,
+    }
+}
+
+// Keeps the goal of a premise, where the conclusion's is kept by this number.
+fn keep(number: u16, goal: Goal) -> Kept
+    ensures { λ r. ⌜ r ≡ keptAs number goal ⌝ }
+{
+    match goal {
+        Goal::True(f) => keep_truth(f),
+        Goal::Affirms(_, _) => Kept { number, affirms: 1 },
+    }
+}
+
+// Whether a step is refused.
+fn is_refused(premises: Premises) -> bool
+    ensures { λ r. ⌜ ((g : Goal) → r ≡ isRefused (opened g premises)) ⌝ }
+{
+    match premises {
+        Premises::Refused(_) => true,
+        _ => false,
+    }
+}
+
+// How many premises a step opens.
+fn premise_count(premises: Premises) -> usize
+    ensures { λ r. ⌜ ((g : Goal) → r ≡ countOf (opened g premises)) ⌝ }
+{
+    match premises {
+        Premises::Refused(_) => 0,
+        Premises::Closed => 0,
+        Premises::Truth(_) => 1,
+        Premises::TruthWith(_, _) => 1,
+        Premises::With(_) => 1,
+        Premises::WithBoth(_, _) => 1,
+        Premises::TruthThenWith(_, _) => 2,
+        Premises::BothTruths(_, _) => 2,
+        Premises::WithEither(_, _) => 2,
+        Premises::Affirmation(_, _) => 1,
+    }
+}
+
+// The goal of the first premise, where the conclusion is this goal, kept by this number.
+fn first_goal(premises: Premises, number: u16, goal: Goal) -> Kept
+    ensures { λ r. ⌜ r ≡ firstKept number (opened goal premises) ⌝ }
+{
+    match premises {
+        Premises::Refused(_) => Kept {
+            number: 0,
+            affirms: 0,
+        },
+        Premises::Closed => Kept {
+            number: 0,
+            affirms: 0,
+        },
+        Premises::Truth(a) => keep_truth(a),
+        Premises::TruthWith(b, _) => keep_truth(b),
+        Premises::With(_) => keep(number, goal),
+        Premises::WithBoth(_, _) => keep(number, goal),
+        Premises::TruthThenWith(a, _) => keep_truth(a),
+        Premises::BothTruths(a, _) => keep_truth(a),
+        Premises::WithEither(_, _) => keep(number, goal),
+        Premises::Affirmation(_, _) => Kept { number, affirms: 1 },
+    }
+}
+
+// The goal of the last premise.
+fn last_goal(premises: Premises, number: u16, goal: Goal) -> Kept
+    ensures { λ r. ⌜ r ≡ lastKept number (opened goal premises) ⌝ }
+{
+    match premises {
+        Premises::Refused(_) => Kept {
+            number: 0,
+            affirms: 0,
+        },
+        Premises::Closed => Kept {
+            number: 0,
+            affirms: 0,
+        },
+        Premises::Truth(a) => keep_truth(a),
+        Premises::TruthWith(b, _) => keep_truth(b),
+        Premises::With(_) => keep(number, goal),
+        Premises::WithBoth(_, _) => keep(number, goal),
+        Premises::TruthThenWith(_, _) => keep(number, goal),
+        Premises::BothTruths(_, b) => keep_truth(b),
+        Premises::WithEither(_, _) => keep(number, goal),
+        Premises::Affirmation(_, _) => Kept { number, affirms: 1 },
+    }
+}
+
+// Writes the goal of each step, in two words, from the start of two lists, as far as each goes. The goals of second
+// premises wait in two arrays until the first premise is proved.
+pub fn write_goals(
+    heads: &[u16],
+    seconds: &[u16],
+    goal: u16,
+    steps: &[u16],
+    numbers: &mut [u16],
+    affirms: &mut [u16],
+)
+    ensures { λ _. ⌜ now (numbers .exit) ≡ written (now (numbers .entry)) (numbersOf (goalsOf (entries (now (heads .entry)) (now (seconds .entry))) (now (steps .entry)) goal)) ⌝ }
+    ensures { λ _. ⌜ now (affirms .exit) ≡ written (now (affirms .entry)) (affirmsOf (goalsOf (entries (now (heads .entry)) (now (seconds .entry))) (now (steps .entry)) goal)) ⌝ }
+{
+    let mut waiting_numbers = [0u16; MOST_DEPTH];
+    let mut waiting_affirms = [0u16; MOST_DEPTH];
+    let mut waiting = 0;
+    let mut number = goal;
+    let mut affirm = 0;
+    let mut i = 0;
+    while i < steps.len() {
+        put(numbers, i, number);
+        put(affirms, i, affirm);
+        let word = steps[i];
+        let here = goal_at(heads, seconds, number, affirm);
+        let premises = apply(heads, seconds, true, upper(word), lower(word), here);
+        if is_refused(premises) {
+            return;
+        }
+        let count = premise_count(premises);
+        if count == 0 {
+            if waiting == 0 {
+                return;
+            }
+            waiting -= 1;
+            number = waiting_numbers[waiting];
+            affirm = waiting_affirms[waiting];
+        } else {
+            if count == 2 {
+                if waiting == MOST_DEPTH {
+                    return;
+                }
+                let last = last_goal(premises, number, here);
+                waiting_numbers[waiting] = last.number;
+                waiting_affirms[waiting] = last.affirms;
+                waiting += 1;
+            }
+            let first = first_goal(premises, number, here);
+            number = first.number;
+            affirm = first.affirms;
+        }
+        i += 1;
+    }
+}
