@@ -21,6 +21,7 @@ pub mod Taken
 pub mod Complete
 pub mod Runs
 pub mod Trace
+pub mod ByWord
 pub mod Figure1
 pub mod Answer
 pub mod Samples

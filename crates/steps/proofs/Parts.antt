@@ -4,7 +4,8 @@ use Prim.Native.Nat.{ℕ, suc, _+_, _-_, _<_, _≤_}
 use native.Mathlib.Omega.{arith}
 use native.Mathlib.Nat.{suc-add}
 use mathlib.Core.Bool.{Bool}
-use mathlib.Core.Path.{_≡_, refl, sym, _∙_}
+use mathlib.Core.Path.{_≡_, refl, sym, ap, _∙_}
+use mathlib.Core.Option.{some, Option·none-ne-some}
 use mathlib.Core.List.{List, [], _∷_, _++_, append-assoc, map}
 use lib.ListN.{length, getD, drop, length-append, drop-of-length-le}
 use lib.Seq.{drop-cons, drop-nil, drop-drop}
@@ -17,6 +18,7 @@ use Rattle.steps.specs.declared.verdict.WalkVerdict.the-variants.{Closed
 use Rattle.steps.specs.Obligation.{Obligation, under}
 use Rattle.steps.specs.Step.{step}
 use Rattle.steps.specs.Run.{after, walk}
+use Rattle.steps.specs.Steps.{premises}
 use Rattle.steps.proofs.Closed.{refused-not-closed, walk-closed}
 use Rattle.steps.specs.Parts.{andThen, later, walkFrom, OneAfterAnother, UsesWords, PlacesMove}
 
@@ -34,6 +36,14 @@ after-same (Opening.Refused n) refused next other same = refl
 after-same Opening.Closed refused next other same = same _
 after-same (Opening.One a) refused next other same = same _
 after-same (Opening.Two a b) refused next other same = same _
+
+-- What follows a step that opens premises goes on with them.
+pub after-opens : {A : Type 0} (x : O.Opened) (ps : List Premise) (refused : ℕ → A) (next : List Premise → A) → premises x ≡ some ps
+    → after x refused next ≡ next ps
+after-opens (Opening.Refused number) ps refused next e = absurd (Option·none-ne-some ps e)
+after-opens Opening.Closed ps refused next e = let same : [] ≡ ps = cc in ap next same
+after-opens (Opening.One a) ps refused next e = let same : a ∷ [] ≡ ps = cc in ap next same
+after-opens (Opening.Two a b) ps refused next e = let same : a ∷ b ∷ [] ≡ ps = cc in ap next same
 
 abbrev pub refusedAt : ℕ → ℕ → WalkVerdict
 refusedAt p number = Refused number p

@@ -4,7 +4,6 @@ use Prim.Native.Nat.{ℕ, suc, _+_, _≤_}
 use native.Mathlib.Omega.{arith}
 use mathlib.Core.Bool.{Bool}
 use mathlib.Core.Path.{_≡_, refl, sym, ap, _∙_}
-use mathlib.Core.Option.{some, Option·none-ne-some}
 use mathlib.Core.List.{List, [], _∷_, _++_, map}
 use lib.ListN.{length, take, drop, take-append-drop}
 use lib.Seq.{take-length, length-take-le}
@@ -22,12 +21,11 @@ use Rattle.steps.specs.Applies.{Takes}
 use Rattle.steps.specs.Step.{step}
 use Rattle.steps.specs.Run.{after, allUsed, walk, run}
 use Rattle.steps.specs.Parts.{walkFrom}
-use Rattle.steps.specs.Steps.{premises}
 use Rattle.steps.specs.Stops.{LeftToProve, Stop, ended, refused, left-over, RefusedWhere}
 use Rattle.steps.proofs.Cases.{OfPremises}
 use Rattle.steps.proofs.Steps.{step-takes, step-refused, step-opens}
 use Rattle.steps.proofs.Closed.{refused-not-closed}
-use Rattle.steps.proofs.Parts.{refusedAt, walk-done, walk-ends, walk-steps}
+use Rattle.steps.proofs.Parts.{after-opens, refusedAt, walk-done, walk-ends, walk-steps}
 
 module _ (speaks : ℕ → ℕ → Bool) (limit : ℕ) (es : List Entry) where
   -- ---- a refusal is a stop
@@ -75,13 +73,6 @@ module _ (speaks : ℕ → ℕ → Bool) (limit : ℕ) (es : List Entry) where
 
   -- ---- a stop is a refusal
 
-  -- What follows a step that takes o to premises goes on with them.
-  after-takes : (k : ℕ) (x : O.Opened) (ps : List Premise) (next : List Premise → WalkVerdict) → premises x ≡ some ps → after x (refusedAt k) next ≡ next ps
-  after-takes k (Opening.Refused number) ps next e = absurd (Option·none-ne-some ps e)
-  after-takes k Opening.Closed ps next e = let same : [] ≡ ps = cc in ap next same
-  after-takes k (Opening.One a) ps next e = let same : a ∷ [] ≡ ps = cc in ap next same
-  after-takes k (Opening.Two a b) ps next e = let same : a ∷ b ∷ [] ≡ ps = cc in ap next same
-
   -- The walk goes on with what the words leave to prove:
   goes-on : (us vs : List ℕ) (k : ℕ) (os rest : List Obligation)
       → LeftToProve speaks limit es us os rest → walk speaks limit es (us ++ vs) k os ≡ walk speaks limit es vs (k + length us) rest
@@ -90,7 +81,7 @@ module _ (speaks : ℕ → ℕ → Bool) (limit : ℕ) (es : List Entry) where
   goes-on (u ∷ us) vs k [] rest e = absurd e
   goes-on (u ∷ us) vs k (o ∷ os) rest (ps, (takes, l)) =
       let z : k + suc (length us) ≡ suc k + length us = omega arith in
-      after-takes k (step speaks es limit u o) ps _ (step-opens speaks limit es u o ps .1 takes)
+      after-opens (step speaks es limit u o) ps (refusedAt k) _ (step-opens speaks limit es u o ps .1 takes)
       ∙ (goes-on us vs (suc k) (map (under o) ps ++ os) rest l ∙ ap (λ n. walk speaks limit es vs n rest) (sym z))
 
   -- from p on, with what the words before p leave.

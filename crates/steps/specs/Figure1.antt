@@ -1,11 +1,12 @@
 -- The machine of document 01 itself: "the same K" for code 11, and depth at most 512. Records, exchanges and code cite
 -- it from here. Proved in proofs/Figure1.antt. Assumes nothing.
-use Prim.Native.Nat.{ℕ, _≤_}
+use Prim.Native.Nat.{ℕ, _≤_, _<_}
 use mathlib.Core.Bool.{Bool}
 use mathlib.Core.Path.{_≡_}
 use mathlib.Core.Logic.{_↔_}
+use mathlib.Core.Option.{some}
 use mathlib.Core.List.{List, [], _∷_}
-use lib.ListN.{length}
+use lib.ListN.{length, getD, getElem?, take}
 use lib.Dec.{eqb}
 use Rattle.basics.specs.Membership.{_∈_}
 use Rattle.basics.specs.declared.tested.Tested.the-variants.{Passed}
@@ -24,7 +25,7 @@ use Rattle.steps.specs.Stops as AnyStops
 use Rattle.steps.specs.Carried as AnyCarried
 use Rattle.steps.specs.Carried.{InTable}
 use Rattle.steps.specs.Trace as AnyTrace
-use Rattle.steps.specs.Trace.{Line}
+use Rattle.steps.specs.Trace.{Line, lineOf}
 
 -- "the same K"
 abbrev pub same : ℕ → ℕ → Bool
@@ -41,6 +42,9 @@ run es ws os = AnyRun.run same mostDepth es ws os
 
 abbrev pub Stop : List Entry → List ℕ → List Obligation → ℕ → ℕ → Type 0
 Stop es ws os number p = AnyStops.Stop same mostDepth es ws os number p
+
+abbrev pub LeftToProve : List Entry → List ℕ → List Obligation → List Obligation → Type 0
+LeftToProve es ws os rest = AnyStops.LeftToProve same mostDepth es ws os rest
 
 abbrev pub Carried : List Entry → List Obligation → List ℕ → Type 0
 Carried es os ws = AnyCarried.Carried Same mostDepth es os ws
@@ -91,3 +95,11 @@ abbrev pub LinePerWord : Type 0
 LinePerWord =
     (es : List Entry) (os : List Obligation) (ws : List ℕ)
     → run es ws os ≡ Closed (length ws) → length (trace es ws os) ≡ length ws
+
+-- Line i is the code of word i, what it names, and the goal that was open there.
+abbrev pub LinesByWord : Type 0
+LinesByWord =
+    (es : List Entry) (os : List Obligation) (ws : List ℕ) → run es ws os ≡ Closed (length ws)
+    → (i : ℕ) → i < length ws
+    → (o : Obligation) × (rest : List Obligation) × LeftToProve es (take i ws) os (o ∷ rest)
+    × (getElem? (trace es ws os) i ≡ some (lineOf same es (getD ws i 0) o))

@@ -16,6 +16,7 @@ pub mod Words
 pub mod Carried
 pub mod Runs
 pub mod Trace
+pub mod ByWord
 pub mod Figure1
 pub mod Answer
 pub mod Samples
