@@ -1,5 +1,5 @@
 -- Samples of the goals that are kept. Proved in proofs/Samples.antt, by computation. Assumes nothing.
-use Prim.Native.Nat.{ℕ, suc}
+use Prim.Native.Nat.{ℕ, suc, _*_}
 use mathlib.Core.Path.{_≡_}
 use mathlib.Core.List.{List, [], _∷_}
 use lib.ListN.{length, replicate}
@@ -59,4 +59,4 @@ refused = record {
 -- Atom 0 by implies left of atom 0 implies atom 0, over and over: one goal more waits each time, and the last is the
 -- one behind which as many wait as a step may be deep.
 abbrev pub MostWait : Type 0
-MostWait = length (goalsOf (entries (0 ∷ 8192 ∷ []) (0 ∷ 0 ∷ [])) (replicate 600 12289) 0) ≡ suc mostDepth
+MostWait = length (goalsOf (entries (0 ∷ 8192 ∷ []) (0 ∷ 0 ∷ [])) (replicate (2 * mostDepth) 12289) 0) ≡ suc mostDepth

@@ -1,4 +1,5 @@
 -- The theorems whose statements are in specs/.
 pub mod Order
+pub mod Sentences
 pub mod Samples
 pub mod Requests

@@ -1,7 +1,10 @@
 -- The requests are met (specs/Requests.antt). Assumes nothing.
 use Rattle.line.proofs.Printed.{one-line, line-of-grant}
+use Rattle.sentences.proofs.Text.{text-of-derivation, line-per-step, same-text}
+use Rattle.sentences.proofs.Samples.{text-of-a, text-of-every-rule, answers, left}
 use Rattle.requests.specs.Requests.{Requests}
 use Rattle.requests.proofs.Order.{signers-rise, release-grants, order-not-free, one-possible-line, count-stays}
+use Rattle.requests.proofs.Sentences.{release-written, else-refused}
 use Rattle.requests.proofs.Samples.{in-order}
 
 pub requests : Requests
@@ -14,4 +17,13 @@ requests = record {
   line-of-grant = line-of-grant;
   count-stays = count-stays;
   in-order = in-order;
+  text-of-derivation = text-of-derivation;
+  line-per-step = line-per-step;
+  text-of-a = text-of-a;
+  text-of-every-rule = text-of-every-rule;
+  same-text = same-text;
+  release-written = release-written;
+  else-refused = else-refused;
+  answers = answers;
+  left = left;
 }

@@ -1,4 +1,5 @@
 -- Document 02 on one page: what each request asks for, and that it holds; samples, and what a request leaves as it was.
 pub mod Order
+pub mod Sentences
 pub mod Samples
 pub mod Requests

@@ -1,20 +1,27 @@
 -- A granted record's text is that of the derivation that its words are, and two of them are equal exactly when goals,
 -- rules and named formulas are the same (specs/Promises.antt). Assumes nothing.
 use mathlib.Core.Path.{_≡_, sym, ap, _∙_}
-use mathlib.Core.List.{List, map}
+use mathlib.Core.List.{List, [], _∷_, map}
 use Prim.Native.Nat.{ℕ}
 use Rattle.logic.specs.Proposition.{Proposition, false}
 use Rattle.logic.specs.Judgment.{Judgment, truth, _affirms_}
+use Rattle.steps.specs.Obligation.{obligation}
 use Rattle.steps.specs.Trace.{Line}
+use Rattle.steps.proofs.Figure1.{line-per-word}
+use Rattle.record.specs.Layout.{goal, statements, steps, table}
 use Rattle.record.specs.Proof.{goalOf, IsProof}
-use Rattle.record.proofs.IsProof.{lines-of-proof}
+use Rattle.record.proofs.IsProof.{closes-on-proof, lines-of-proof}
 use Rattle.sentences.specs.Sentences.{sentences}
-use Rattle.sentences.specs.Promises.{proofLines, TextOfDerivation, ruleApplied, SameProof, SameText}
+use Rattle.sentences.specs.Promises.{proofLines, TextOfDerivation, LinePerStep, ruleApplied, SameProof, SameText}
 use Rattle.sentences.proofs.Told.{sentences-told}
 use Rattle.sentences.proofs.Lines.{goals, firstOr, known, first-goal, determined}
 
 pub text-of-derivation : TextOfDerivation
 text-of-derivation file keeps p = ap sentences (lines-of-proof file keeps p)
+
+pub line-per-step : LinePerStep
+line-per-step file keeps p =
+    line-per-word (table file) (obligation (statements file) (goal file) ∷ []) (steps file) (closes-on-proof file keeps .1 p)
 
 proved : Judgment → Proposition
 proved (truth A) = A

@@ -10,14 +10,14 @@ use Rattle.basics.specs.Limits.{mostStatements, mostSteps}
 use Rattle.basics.specs.Order.{FirstReason, checkingOrder}
 use Rattle.logic.specs.Proposition.{Proposition}
 use Rattle.steps.specs.Trace.{Line, lines}
-use Rattle.record.specs.Layout.{mostBytes}
+use Rattle.record.specs.Layout.{steps, mostBytes}
 use Rattle.record.specs.Proof.{Keeps, goalOf, IsProof}
 use Rattle.record.specs.Reasons.{Reason}
 use Rattle.record.specs.Promises.{GrantSays}
 use Rattle.sentences.specs.declared.verdict.SentencesVerdict.{SentencesVerdict}
 use Rattle.sentences.specs.declared.verdict.SentencesVerdict.the-variants.{Written, Refused}
 use Rattle.sentences.specs.Sentences.{sentences}
-use Rattle.sentences.specs.Answer.{recordText, sentencesAnswer}
+use Rattle.sentences.specs.Answer.{recordLines, recordText, sentencesAnswer}
 
 -- ---- the text
 
@@ -31,6 +31,10 @@ proofText p = sentences (proofLines p)
 -- "Write a granted record's proof as text": its text is that of the derivation that its words are.
 abbrev pub TextOfDerivation : Type 0
 TextOfDerivation = (file : List ℕ) → Keeps file → (p : IsProof file) → recordText file ≡ proofText p
+
+-- "one line a step"
+abbrev pub LinePerStep : Type 0
+LinePerStep = (file : List ℕ) → Keeps file → IsProof file → length (recordLines file) ≡ length (steps file)
 
 -- the rule of a line, and the formula that it names, if any
 abbrev pub ruleApplied : Line → ℕ × Option Proposition

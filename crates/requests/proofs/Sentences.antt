@@ -1,0 +1,84 @@
+-- Job 2 (specs/Sentences.antt): a release's text is written, every other file is refused. Assumes nothing.
+use Prim.Native.Nat.{ℕ, _≤_}
+use native.Mathlib.Omega.{arith}
+use mathlib.Core.Path.{_≡_, refl, sym, ap, _∙_}
+use mathlib.Core.Logic.{Iff·trans}
+use mathlib.Core.List.{List, _++_}
+use lib.ListN.{length, drop}
+use Rattle.basics.specs.Order.{FirstReason}
+use Rattle.signers.proofs.Each.{signers-are, signs-spelled}
+use Rattle.record.specs.Layout.{table, statements, signers}
+use Rattle.record.specs.Proof.{Keeps}
+use Rattle.record.specs.Promises.{GrantSays}
+use Rattle.sentences.specs.declared.verdict.SentencesVerdict.{SentencesVerdict}
+use Rattle.sentences.specs.declared.verdict.SentencesVerdict.the-variants.{Written, Refused}
+use Rattle.sentences.specs.Answer.{sentencesAnswer, signersAfter, textAfter}
+use Rattle.sentences.specs.Promises.{proofText, sentencesOrder, SentencesReason}
+use Rattle.sentences.proofs.Text.{text-of-derivation}
+use Rattle.sentences.proofs.Answer.{written-exactly}
+use Rattle.sentences.proofs.Refused.{refused-exactly}
+use Rattle.demands.specs.Release.{Signers, Release}
+use Rattle.requests.specs.Sentences.{Call, ReleaseWritten, ElseRefused}
+use Rattle.requests.proofs.Order.{order-not-free}
+
+-- The signers of a file that keeps the layout are those of its statements.
+are-signers : (file : List ℕ) → Keeps file → Signers file (signers file)
+are-signers file keeps =
+    let are = signers-are (table file) (statements file) in
+    let spelled = signs-spelled (table file) (keeps .ordered) (statements file) in
+    record { each = λ K. Iff·trans (are .each K) (spelled K); rising = are .rising }
+
+names-are : (file : List ℕ) (room : ℕ) (r : Release file room) → r .names ≡ signers file
+names-are file room r = order-not-free file (r .names) (signers file) (r .signers) (are-signers file (r .keeps))
+
+pub release-written : ReleaseWritten
+release-written file list list′ text text′ answer call r fits =
+    let names = names-are file (length list) r in
+    let count = ap length names in
+    let room = r .fits in
+    let size : ℕ = length (proofText (r .is-proof)) in
+    let grant : GrantSays file (length list) (length (r .names)) = record { keeps = r .keeps; is-proof = r .is-proof; fits = omega arith; counted = count } in
+    let is = call .answered ∙ written-exactly file (length list) (length text) (length (r .names)) size .1 (record { grant = grant; fits = fits; counted = refl }) in
+    let same = text-of-derivation file (r .keeps) (r .is-proof) in (
+      is,
+      call .list-after ∙ ap (λ (v : SentencesVerdict). signersAfter file v list) is ∙ ap (λ (l : List ℕ). l ++ drop (length (r .names)) list) (sym names),
+      call .text-after ∙ ap (λ (v : SentencesVerdict). textAfter file v text) is ∙ ap (λ (t : List ℕ). t ++ drop size text) same,
+    )
+
+-- A text that is written is a release's, and fits.
+written-release : (file : List ℕ) (room bytes count written : ℕ) → sentencesAnswer file room bytes ≡ Written count written
+    → (r : Release file room) × (length (proofText (r .is-proof)) ≤ bytes)
+written-release file room bytes count written e =
+    let w = written-exactly file room bytes count written .0 e in
+    let g = w .grant in (
+      record { keeps = g .keeps; is-proof = g .is-proof; names = signers file; signers = are-signers file (g .keeps); fits = g .fits },
+      w .fits,
+    )
+
+-- What is refused stays as it was.
+module _ (file list list′ text text′ : List ℕ) (answer : SentencesVerdict) (call : Call file list list′ text text′ answer) where
+  refused-as : (number p : ℕ) → sentencesAnswer file (length list) (length text) ≡ Refused number p
+      → (answer ≡ Refused number p) × (list′ ≡ list) × (text′ ≡ text)
+  refused-as number p e =
+      let is = call .answered ∙ e in (
+        is,
+        call .list-after ∙ ap (λ (v : SentencesVerdict). signersAfter file v list) is,
+        call .text-after ∙ ap (λ (v : SentencesVerdict). textAfter file v text) is,
+      )
+
+  else :
+      ¬ ((r : Release file (length list)) × (length (proofText (r .is-proof)) ≤ length text))
+      → (v : SentencesVerdict) → sentencesAnswer file (length list) (length text) ≡ v
+      → (number : ℕ) × (place : ℕ)
+      × FirstReason sentencesOrder (SentencesReason file (length list) (length text)) number place
+      × (answer ≡ Refused number place)
+      × (list′ ≡ list)
+      × (text′ ≡ text)
+  else none (Written count written) e = absurd (none (written-release file (length list) (length text) count written e))
+  else none (Refused number p) e =
+      let (is, same, also) = refused-as number p e in
+      (number, p, refused-exactly file (length list) (length text) number p .0 e, is, same, also)
+
+pub else-refused : ElseRefused
+else-refused file list list′ text text′ answer call none =
+    else file list list′ text text′ answer call none (sentencesAnswer file (length list) (length text)) refl
