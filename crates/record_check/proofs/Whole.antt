@@ -22,7 +22,7 @@ use Rattle.record.proofs.LayoutIs.{sized}
 use Rattle.record.proofs.Lengths.{length-heads, length-seconds}
 use Rattle.record.proofs.Granted.{granted-exactly}
 use Rattle.record.proofs.Answered.{answer-refused}
-use Rattle.record_check.specs.Parts.{sizesFit, partTests, roomTest, stepTest, arraysAnswer, PartsOfRecord, listWritten}
+use Rattle.record_check.specs.Parts.{sizesFit, contentTests, arraysAnswer, PartsOfRecord, listWritten}
 use Rattle.record_check.proofs.PartTests.{sizes-fit-exactly}
 
 module _ (file : List ℕ) where
@@ -61,11 +61,7 @@ module _ (file : List ℕ) where
     -- so 4 to 15 are left of the tests
     tests-from-4 :
         (room : ℕ)
-        → firstRefusal
-        (partTests (heads file) (seconds file) (statements file) (goal file)
-        ++ (roomTest (heads file) (seconds file) (statements file) room
-        ∷ stepTest (heads file) (seconds file) (statements file) (goal file) (steps file)
-        ∷ []))
+        → firstRefusal (contentTests (heads file) (seconds file) (statements file) (goal file) (steps file) room)
         ≡ firstRefusal (tests file room)
     tests-from-4 room =
         let passed = passed-to-three recordLayout file .1 (sized file .1 s) in

@@ -40,7 +40,7 @@ abbrev pub NoneBelow : ℕ → ℕ → Type 0
 NoneBelow zero x = Unit
 NoneBelow (suc k) x = NoneBelow k x × ¬ (x ≡ k)
 
-past : (k x : ℕ) → NoneBelow k x → k ≤ x
+pub past : (k x : ℕ) → NoneBelow k x → k ≤ x
 past zero x none = omega arith
 past (suc k) x (none, other) = omega (arith, past k x none)
 

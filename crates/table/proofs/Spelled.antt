@@ -4,8 +4,8 @@ use native.Mathlib.Omega.{arith}
 use native.Mathlib.Decide.{decLt}
 use mathlib.Core.Path.{_≡_, refl, sym, ap, _∙_}
 use mathlib.Core.List.{List, [], _∷_, _++_, append-assoc, append-nil}
-use lib.ListN.{length, take, drop, List·getD-append, List·getD-eq-default}
-use lib.Seq.{length-take-le, append-snoc, split-at, getD-at}
+use lib.ListN.{length, take, drop, length-take, take-append-drop, List·getD-append, List·getD-eq-default}
+use lib.Seq.{length-take-le, take-all, take-suc, append-snoc, split-at, getD-at}
 use Rattle.basics.specs.Membership.{_∈_}
 use Rattle.basics.proofs.Membership.{first, second}
 use Rattle.logic.specs.Proposition.{Proposition, false, _says_}
@@ -86,3 +86,50 @@ made-of-operands es ordered n = by (decLt n (length es))
     by : Dec (n < length es) → spell es n ≡ proposition (spelled es) (entryAt es n)
     by (yes l) = below es ordered n l
     by (no m) = past es n (omega arith)
+
+-- ---- in every table, ordered or not
+
+-- A number's proposition is made of those of the entries before it.
+pub made-before : (es : List Entry) (n : ℕ) → spell es n ≡ proposition (spelled (take n es)) (entryAt es n)
+made-before es n = by (decLt n (length es))
+  where
+    same-none : (e : Entry) → e ≡ IllFormed → proposition (spelled es) e ≡ proposition (spelled (take n es)) e
+    same-none e none = rw none
+
+    by : Dec (n < length es) → spell es n ≡ proposition (spelled (take n es)) (entryAt es n)
+    by (yes l) =
+        let before = spelled (take n es) in
+        let (rest, is) = around es n l in
+        let sized : length before ≡ n = length-spelled (take n es) ∙ length-take-le n es (omega arith) in
+        rw is (getD-at before (proposition before (entryAt es n)) rest false n sized)
+    by (no m) = past es n (omega arith) ∙ same-none (entryAt es n) (List·getD-eq-default es IllFormed (omega arith))
+
+-- Below n there are the same propositions before entry n,
+pub among-lower : (es : List Entry) (n m : ℕ) → m < n → among (spelled (take n es)) m ≡ spell es m
+among-lower es n m l = by (decLt n (length es))
+  where
+    by : Dec (n < length es) → among (spelled (take n es)) m ≡ spell es m
+    by (yes f) =
+        let before = spelled (take n es) in
+        let (rest, is) = around es n f in
+        let sized : length before ≡ n = length-spelled (take n es) ∙ length-take-le n es (omega arith) in
+        rw is (sym (List·getD-append before _ false m (omega arith)))
+    by (no f) = ap (λ (r : List Entry). spell r m) (take-all n es (omega arith))
+
+-- and from n on there is none.
+pub among-higher : (es : List Entry) (n m : ℕ) → n ≤ m → among (spelled (take n es)) m ≡ false
+among-higher es n m l =
+    List·getD-eq-default (spelled (take n es)) false (omega (arith, length-spelled (take n es), length-take n es))
+
+-- One entry more makes one proposition more,
+pub spelled-next : (es : List Entry) (n : ℕ) → n < length es
+    → spelled (take (suc n) es) ≡ spelled (take n es) ++ (proposition (spelled (take n es)) (entryAt es n) ∷ [])
+unfolding spelledAfter spelled
+spelled-next es n l = ap spelled (take-suc es n IllFormed l) ∙ joined [] (take n es) (entryAt es n ∷ [])
+
+-- and those of the first entries stand in front.
+pub spelled-front : (es : List Entry) (n : ℕ) → (rest : List Proposition) × (spelled es ≡ spelled (take n es) ++ rest)
+unfolding spelledAfter spelled
+spelled-front es n =
+    let (rest, grows, _) = grown (spelled (take n es)) (drop n es) in
+    (rest, ap spelled (sym (take-append-drop n es)) ∙ joined [] (take n es) (drop n es) ∙ grows)

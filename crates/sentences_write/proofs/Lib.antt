@@ -1,0 +1,8 @@
+-- The laws behind the code.
+pub mod Filled
+pub mod Operands
+pub mod Names
+pub mod Named
+pub mod Reached
+pub mod Lengths
+pub mod Arrays

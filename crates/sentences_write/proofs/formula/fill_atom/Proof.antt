@@ -1,0 +1,15 @@
+-- `formula::fill_atom` meets its contract: what is filled in are a letter and then the number. Assumes nothing.
+use borrow.Author.Needs.{needs}
+use Rattle.text.specs.Ascii.{ascii}
+use Rattle.text.proofs.Places.{fill-then}
+use Rattle.sentences_write.proofs.formula.fill_atom.Statement.{statement}
+use Rattle.sentences_write.proofs.formula.fill_atom.Tie as tie
+
+returns : tie.Need-returns
+unfolding ascii
+returns c = fill-then _ _ (ascii "a") _ (c .before .before .before .before .before .before .before .fill .ensures) (c .before .before .fill-decimal .ensures)
+
+pub fill-atom-spec : {M : Type 1} → statement M
+fill-atom-spec =
+    tie.close
+    (tie.spec (λ c. search needs) (λ c κs. search needs) (λ c. search needs) (λ c κs. search needs) (λ c. search needs) returns)

@@ -1,0 +1,15 @@
+-- `length::formula_length` meets its contract, for a number that has a length and for one that has none. Assumes nothing.
+use borrow.Author.Needs.{needs}
+use denote.Ref.{now}
+use Rattle.sentences_write.proofs.Lengths.{length-made, length-unmade}
+use Rattle.sentences_write.proofs.length.formula_length.Statement.{statement}
+use Rattle.sentences_write.proofs.length.formula_length.Tie as tie
+
+returns : tie.Need-returns
+returns c = let a = c .before .before .args in length-made (now (a .lengths)) (a .n) (c .before .if1 .taken)
+
+returns-2 : tie.Need-returns-2
+returns-2 c = let a = c .before .args in length-unmade (now (a .lengths)) (a .n) (c .if1 .left)
+
+pub formula-length-spec : {M : Type 1} → statement M
+formula-length-spec = tie.close (tie.spec (λ c. search needs) (λ c. search needs) returns returns-2)

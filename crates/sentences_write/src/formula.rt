@@ -1,0 +1,123 @@
+// The text of a formula, from the number of its entry. "The sentence writer recurs on operand numbers, which fall below
+// the entry's own, and stops when the lent bytes are used up." (01) A formula's text can be far longer than any bytes
+// that are lent, so the room is looked at first. Only numbers are kept on the way down: it can be 4,096 deep.
+ghost use mathlib.Core.Path.{_≡_};
+ghost use mathlib.Core.List.{_++_};
+ghost use Rattle.basics.specs.Written.{writtenAt};
+ghost use Rattle.text.specs.Ascii.{ascii};
+ghost use Rattle.text.specs.Decimal.{decimal};
+ghost use Rattle.text.specs.Fill.{placeAfter};
+ghost use Rattle.table.specs.Tests.{entries};
+ghost use Rattle.table.specs.Spelled.{spell};
+ghost use Rattle.sentences.specs.Formula.{propositionText, principalText};
+ghost use Rattle.sentences_write.specs.Operand.{operandText, inBrackets};
+use table::entry::Atom;
+use table::entry::Entry;
+use table::entry::Formula;
+use table::entry::Principal;
+use table::entry::entry_at;
+use text::decimal::fill_decimal;
+use text::fill::fill;
+
+// "Atom 0 is a0"
+fn fill_atom(a: Atom, text: &mut [u8], at: usize) -> usize
+    ensures { λ _. ⌜ now (text .exit) ≡ writtenAt (now (text .entry)) at (ascii "a" ++ decimal (a .0)) ⌝ }
+    ensures { λ r. ⌜ r ≡ placeAfter (now (text .entry)) at (ascii "a" ++ decimal (a .0)) ⌝ }
+{
+    let end = fill(text, at, b"a");
+    fill_decimal(text, end, a.0 as usize)
+}
+
+// "principal 7 is p7"
+pub(crate) fn fill_principal(k: Principal, text: &mut [u8], at: usize) -> usize
+    ensures { λ _. ⌜ now (text .exit) ≡ writtenAt (now (text .entry)) at (principalText (k .0)) ⌝ }
+    ensures { λ r. ⌜ r ≡ placeAfter (now (text .entry)) at (principalText (k .0)) ⌝ }
+{
+    let end = fill(text, at, b"p");
+    fill_decimal(text, end, k.0 as usize)
+}
+
+// An operand of entry n. One that isn't lower is spelled as false.
+fn fill_operand(
+    heads: &[u16],
+    seconds: &[u16],
+    n: u16,
+    f: Formula,
+    text: &mut [u8],
+    at: usize,
+) -> usize
+    ensures { λ _. ⌜ now (text .exit) ≡ writtenAt (now (text .entry)) at (operandText (entries (now (heads .entry)) (now (seconds .entry))) n (f .0)) ⌝ }
+    ensures { λ r. ⌜ r ≡ placeAfter (now (text .entry)) at (operandText (entries (now (heads .entry)) (now (seconds .entry))) n (f .0)) ⌝ }
+{
+    let number = f.0;
+    if number < n {
+        return fill_formula(heads, seconds, number, text, at);
+    }
+    fill(text, at, b"false")
+}
+
+// Two operands of entry n in round brackets, with their kind's word in the middle.
+fn fill_pair(
+    heads: &[u16],
+    seconds: &[u16],
+    n: u16,
+    a: Formula,
+    word: &[u8],
+    b: Formula,
+    text: &mut [u8],
+    at: usize,
+) -> usize
+    ensures { λ _. ⌜ now (text .exit) ≡ writtenAt (now (text .entry)) at (inBrackets (operandText (entries (now (heads .entry)) (now (seconds .entry))) n (a .0)) (now (word .entry)) (operandText (entries (now (heads .entry)) (now (seconds .entry))) n (b .0))) ⌝ }
+    ensures { λ r. ⌜ r ≡ placeAfter (now (text .entry)) at (inBrackets (operandText (entries (now (heads .entry)) (now (seconds .entry))) n (a .0)) (now (word .entry)) (operandText (entries (now (heads .entry)) (now (seconds .entry))) n (b .0))) ⌝ }
+{
+    let mut end = fill(text, at, b"(");
+    end = fill_operand(heads, seconds, n, a, text, end);
+    end = fill(text, end, word);
+    end = fill_operand(heads, seconds, n, b, text, end);
+    fill(text, end, b")")
+}
+
+// "(p7 says a0)"
+fn fill_says(
+    heads: &[u16],
+    seconds: &[u16],
+    n: u16,
+    k: Principal,
+    a: Formula,
+    text: &mut [u8],
+    at: usize,
+) -> usize
+    ensures { λ _. ⌜ now (text .exit) ≡ writtenAt (now (text .entry)) at (inBrackets (principalText (k .0)) (ascii " says ") (operandText (entries (now (heads .entry)) (now (seconds .entry))) n (a .0))) ⌝ }
+    ensures { λ r. ⌜ r ≡ placeAfter (now (text .entry)) at (inBrackets (principalText (k .0)) (ascii " says ") (operandText (entries (now (heads .entry)) (now (seconds .entry))) n (a .0))) ⌝ }
+{
+    let mut end = fill(text, at, b"(");
+    end = fill_principal(k, text, end);
+    end = fill(text, end, b" says ");
+    end = fill_operand(heads, seconds, n, a, text, end);
+    fill(text, end, b")")
+}
+
+// Writes the text of a number's formula from the place `at` on, as far as there is room, and gives the place after it.
+pub(crate) fn fill_formula(
+    heads: &[u16],
+    seconds: &[u16],
+    n: u16,
+    text: &mut [u8],
+    at: usize,
+) -> usize
+    ensures { λ _. ⌜ now (text .exit) ≡ writtenAt (now (text .entry)) at (propositionText (spell (entries (now (heads .entry)) (now (seconds .entry))) n)) ⌝ }
+    ensures { λ r. ⌜ r ≡ placeAfter (now (text .entry)) at (propositionText (spell (entries (now (heads .entry)) (now (seconds .entry))) n)) ⌝ }
+{
+    if at >= text.len() {
+        return at;
+    }
+    match entry_at(heads, seconds, n) {
+        Entry::Atom(a) => fill_atom(a, text, at),
+        Entry::Implies(a, b) => fill_pair(heads, seconds, n, a, b" implies ", b, text, at),
+        Entry::And(a, b) => fill_pair(heads, seconds, n, a, b" and ", b, text, at),
+        Entry::Or(a, b) => fill_pair(heads, seconds, n, a, b" or ", b, text, at),
+        Entry::Says(k, a) => fill_says(heads, seconds, n, k, a, text, at),
+        Entry::False => fill(text, at, b"false"),
+        Entry::IllFormed => fill(text, at, b"false"),
+    }
+}

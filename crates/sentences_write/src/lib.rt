@@ -1,0 +1,8 @@
+// A record's proof in sentences, written into lent bytes.
+mod formula;
+mod length;
+mod line;
+mod lines;
+mod measure;
+mod name;
+pub mod write;
