@@ -4,7 +4,7 @@ use Prim.Native.Nat.{ℕ, suc, _≤_, _<_}
 use native.Mathlib.Omega.{arith}
 use mathlib.Core.Bool.{true}
 use mathlib.Core.Path.{_≡_, refl, sym, ap, ap₂, _∙_}
-use mathlib.Core.Option.{some, Option·none-ne-some}
+use mathlib.Core.Option.{some}
 use mathlib.Core.List.{List, [], _∷_, _++_, map}
 use lib.ListN.{length, getD}
 use lib.Dec.{eqb}
@@ -21,18 +21,17 @@ use Rattle.table.specs.Tests.{entryAt}
 use Rattle.steps.specs.declared.goal.Goal.{Goal}
 use Rattle.steps.specs.declared.goal.Goal.the-variants.{True, Affirms}
 use Rattle.steps.specs.declared.opened.Premise.{Premise}
-use Rattle.steps.specs.declared.opened.Opened as O
-use Rattle.steps.specs.declared.opened.Opened.the-variants as Opening
 use Rattle.steps.specs.declared.verdict.WalkVerdict.the-variants.{Closed}
 use Rattle.steps.specs.Obligation.{Obligation, under}
 use Rattle.steps.specs.Applies.{Applies, init, affirm, implies-right, implies-left, false-left, and-right, and-left, or-right-first, or-right-second, or-left, says-right, says-left}
 use Rattle.steps.specs.Step.{rules, unknown, step}
-use Rattle.steps.specs.Run.{after, walk}
+use Rattle.steps.specs.Run.{walk}
 use Rattle.steps.specs.Steps.{premises}
 use Rattle.steps.specs.Trace.{Line, trace}
 use Rattle.steps.specs.Figure1.{same}
 use Rattle.steps.proofs.Steps.{step-opens}
 use Rattle.steps.proofs.Closed.{walk-closed, run-closed}
+use Rattle.steps.proofs.Parts.{after-opens}
 use Rattle.rules.specs.Tested.{tested}
 use Rattle.goals.specs.declared.kept.Kept.{Kept}
 use Rattle.goals.specs.Kept.{affirmedBy, goalAt, lineAt, linesAt}
@@ -115,14 +114,6 @@ module _ (es : List Entry) where
   opens-row (or-left m e) = rw e
   opens-row (says-right e) = rw e
   opens-row (says-left m e t) = rw (e, t)
-
--- What follows a step that opens premises goes on with them.
-after-opens : {A : Type 0} (x : O.Opened) (ps : List Premise) (refused : ℕ → A) (next : List Premise → A) → premises x ≡ some ps
-    → after x refused next ≡ next ps
-after-opens (Opening.Refused number) ps refused next e = absurd (Option·none-ne-some ps e)
-after-opens Opening.Closed ps refused next e = let is : [] ≡ ps = cc in ap next is
-after-opens (Opening.One a) ps refused next e = let is : a ∷ [] ≡ ps = cc in ap next is
-after-opens (Opening.Two a b) ps refused next e = let is : a ∷ b ∷ [] ≡ ps = cc in ap next is
 
 -- ---- the walk
 
