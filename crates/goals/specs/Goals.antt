@@ -51,7 +51,9 @@ goalsFrom es [] ks = []
 goalsFrom es (w ∷ ws) [] = []
 goalsFrom es (w ∷ ws) (k ∷ ks) =
     pick (leb (length ks) mostDepth)
-    (k ∷ after (opensFreely es w (goalOf es k)) (λ number. []) (λ ps. goalsFrom es ws (premisesKept (k .number) ps ++ ks))) []
+    (k
+    ∷ after (opensFreely es w (goalOf es k)) (λ number. []) (λ ps. goalsFrom es ws (premisesKept (k .number) ps ++ ks)))
+    []
 
 -- of a proof of one goal
 abbrev pub goalsOf : List Entry → List ℕ → ℕ → List Kept

@@ -26,7 +26,9 @@ returns : tie.Need-returns
 returns c = rw (eq-eqb _ _ (c .before .if1 .taken)) (ap True (c .goal-formula .ensures))
 
 returns-2 : tie.Need-returns-2
-returns-2 c = rw (ne-eqb _ _ (c .before .before .before .before .if1 .left), ← c .before .before .before .entry-at .ensures, c .before .k .given .1)
+returns-2 c =
+    rw
+    (ne-eqb _ _ (c .before .before .before .before .if1 .left), ← c .before .before .before .entry-at .ensures, c .before .k .given .1)
 
 returns-3 : tie.Need-returns-3
 returns-3 c =
