@@ -21,7 +21,8 @@ waiting-length ns bs zero = refl
 waiting-length ns bs (suc count) = ap suc (waiting-length ns bs count)
 
 -- What is stored past them changes none.
-stored-past : (ns bs : List ℕ) (count at n b : ℕ) → count ≤ at → waiting (set ns at n) (set bs at b) count ≡ waiting ns bs count
+stored-past : (ns bs : List ℕ) (count at n b : ℕ) → count ≤ at
+    → waiting (set ns at n) (set bs at b) count ≡ waiting ns bs count
 unfolding waiting
 stored-past ns bs zero at n b l = refl
 stored-past ns bs (suc count) at n b l =
@@ -33,7 +34,8 @@ pub pushed : (ns bs : List ℕ) (count n b : ℕ) → count < length ns → coun
     → waiting (set ns count n) (set bs count b) (count + 1) ≡ kept n b ∷ waiting ns bs count
 unfolding waiting
 pushed ns bs count n b l m =
-    rw (add-one count, getD-set-same ns count n 0 l, getD-set-same bs count b 0 m, stored-past ns bs count count n b (omega arith))
+    let below = stored-past ns bs count count n b (omega arith) in
+    rw (add-one count, getD-set-same ns count n 0 l, getD-set-same bs count b 0 m, below)
 
 pub popped : (ns bs : List ℕ) (count : ℕ) → 0 < count
     → waiting ns bs count ≡ kept (getD ns (count - 1) 0) (getD bs (count - 1) 0) ∷ waiting ns bs (count - 1)

@@ -82,9 +82,11 @@ module _ (es : List Entry) where
   Keeps (k ∷ ks) [] = ⊥
   Keeps (k ∷ ks) (o ∷ os) = (goalOf es k ≡ o .goal) × ((length ks < o .depth) × Keeps ks os)
 
-  module _ (k : Kept) (ks : List Kept) (o : Obligation) (os : List Obligation) (less : length ks < o .depth) (h : Keeps ks os) where
+  module _ (k : Kept) (ks : List Kept) (o : Obligation) (os : List Obligation)
+      (less : length ks < o .depth) (h : Keeps ks os) where
     -- So it is with the premises of a rule in the place of its conclusion,
-    premises-keep : {hs : List ℕ} {c n : ℕ} {g : Goal} {ps : List Premise} → Applies same es hs c n g ps → goalOf es k ≡ g
+    premises-keep : {hs : List ℕ} {c n : ℕ} {g : Goal} {ps : List Premise} → Applies same es hs c n g ps
+        → goalOf es k ≡ g
         → Keeps (premisesKept (k .number) ps ++ ks) (map (under o) ps ++ os)
     premises-keep (init m e) is = h
     premises-keep affirm is = (refl, (omega arith, h))
@@ -127,11 +129,12 @@ module _ (es : List Entry) where
       → goalsFrom es (w ∷ ws) (k ∷ ks) ≡ k ∷ goalsFrom es ws (premisesKept (k .number) ps ++ ks)
   unfolding goalsFrom
   goals-next w ws k ks ps few e =
+      let next : List Premise → List Kept = λ ps. goalsFrom es ws (premisesKept (k .number) ps ++ ks) in
       rw (le-leb (length ks) mostDepth few)
-      (ap (λ (gs : List Kept). k ∷ gs) (after-opens (opensFreely es w (goalOf es k)) ps (λ number. []) (λ ps. goalsFrom es ws (premisesKept (k .number) ps ++ ks)) e))
+      (ap (λ (gs : List Kept). k ∷ gs) (after-opens (opensFreely es w (goalOf es k)) ps (λ number. []) next e))
 
-  walk-lines : (ws : List ℕ) (p q : ℕ) (ks : List Kept) (os : List Obligation) → Keeps es ks os → walk same mostDepth es ws p os ≡ Closed q
-      → linesOf ws (goalsFrom es ws ks) ≡ trace same mostDepth es ws os
+  walk-lines : (ws : List ℕ) (p q : ℕ) (ks : List Kept) (os : List Obligation) → Keeps es ks os
+      → walk same mostDepth es ws p os ≡ Closed q → linesOf ws (goalsFrom es ws ks) ≡ trace same mostDepth es ws os
   unfolding linesAt goalsFrom trace
   walk-lines [] p q ks os h e = refl
   walk-lines (w ∷ ws) p q [] [] h e = refl
@@ -143,11 +146,12 @@ module _ (es : List Entry) where
       let row = opens-row es (takes .applies) in
       let opens : premises (opensFreely es w (goalOf es k)) ≡ some ps = rw is row in
       let keeps = premises-keep es k ks o os less h (takes .applies) is in
+      let next : List Premise → List Line = λ ps. trace same mostDepth es ws (map (under o) ps ++ os) in
+      let steps = step-opens same mostDepth es w o ps .1 takes in
       ap (linesOf (w ∷ ws)) (goals-next w ws k ks ps (omega arith) opens)
       ∙ ap₂ (λ (l : Line) (ls : List Line). l ∷ ls) (ap (lineAt es w) is)
       (walk-lines ws (suc p) q (premisesKept (k .number) ps ++ ks) (map (under o) ps ++ os) keeps closes
-      ∙ sym (after-opens (step same es mostDepth w o) ps (λ number. []) (λ ps. trace same mostDepth es ws (map (under o) ps ++ os))
-      (step-opens same mostDepth es w o ps .1 takes)))
+      ∙ sym (after-opens (step same es mostDepth w o) ps (λ number. []) next steps))
 
 pub goals-of-trace : GoalsOfTrace
 goals-of-trace es ss n ws e =

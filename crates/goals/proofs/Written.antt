@@ -46,15 +46,16 @@ done-none all numbers affirms = record {
 }
 
 -- one word more
-stored : (f : Kept → ℕ) (old list : List ℕ) (done : List Kept) (i : ℕ) (k : Kept) → length done ≡ i → list ≡ written old (map f done)
-    → set list i (f k) ≡ written old (map f (done ++ (k ∷ [])))
+stored : (f : Kept → ℕ) (old list : List ℕ) (done : List Kept) (i : ℕ) (k : Kept) → length done ≡ i
+    → list ≡ written old (map f done) → set list i (f k) ≡ written old (map f (done ++ (k ∷ [])))
 stored f old list done i k counted is =
     let at : length (map f done) ≡ i = length-map done f ∙ counted in
     rw (is, ← at, map-append f done (k ∷ [])) (written-store old (map f done) (f k))
 
 module _ {all : List Kept} {numbers₀ affirms₀ numbers affirms : List ℕ} {i : ℕ} where
   -- The next goal is written.
-  pub done-next : {k : Kept} {rest : List Kept} {numbers′ affirms′ : List ℕ} → Done all numbers₀ affirms₀ numbers affirms i (k ∷ rest)
+  pub done-next : {k : Kept} {rest : List Kept} {numbers′ affirms′ : List ℕ}
+      → Done all numbers₀ affirms₀ numbers affirms i (k ∷ rest)
       → numbers′ ≡ set numbers i (k .number) → affirms′ ≡ set affirms i (k .affirms)
       → Done all numbers₀ affirms₀ numbers′ affirms′ (i + 1) rest
   done-next {k} {rest} h n b =
@@ -100,8 +101,8 @@ module _ (es : List Entry) where
   too-many (w ∷ ws) k ks l = rw (lt-leb (length ks) mostDepth l)
 
   -- The goal of the step at i, and then what it opens.
-  pub turn : (steps : List ℕ) (i : ℕ) (k : Kept) (ks : List Kept) {x : O.Opened} → i < length steps → length ks ≤ mostDepth
-      → x ≡ opensFreely es (getD steps i 0) (goalOf es k)
+  pub turn : (steps : List ℕ) (i : ℕ) (k : Kept) (ks : List Kept) {x : O.Opened} → i < length steps
+      → length ks ≤ mostDepth → x ≡ opensFreely es (getD steps i 0) (goalOf es k)
       → goalsFrom es (drop i steps) (k ∷ ks) ≡ k ∷ onward x (k .number) (drop (i + 1) steps) ks
   unfolding goalsFrom
   turn steps i k ks l few is = rw (drop-cons steps i 0 l, le-leb (length ks) mostDepth few, is, add-one i)
@@ -126,7 +127,8 @@ module _ (es : List Entry) where
     on-two (Opening.One a) c = absurd (omega arith)
     on-two (Opening.Two a b) c = refl
 
-    pub on-one : (x : O.Opened) → ¬ (countOf x ≡ 0) → ¬ (countOf x ≡ 2) → onward x n ws ks ≡ goalsFrom es ws (firstKept n x ∷ ks)
+    pub on-one : (x : O.Opened) → ¬ (countOf x ≡ 0) → ¬ (countOf x ≡ 2)
+        → onward x n ws ks ≡ goalsFrom es ws (firstKept n x ∷ ks)
     on-one (Opening.Refused number) z t = absurd (z refl)
     on-one Opening.Closed z t = absurd (z refl)
     on-one (Opening.One a) z t = refl
@@ -140,7 +142,8 @@ module _ (es : List Entry) where
 
 -- The goals of the steps before i are written; from the goal kept in two words and those that wait come the rest.
 pub record Reached
-    (es : List Entry) (steps : List ℕ) (goal : ℕ) (numbers₀ affirms₀ numbers affirms ns bs : List ℕ) (count number affirm i : ℕ)
+    (es : List Entry) (steps : List ℕ) (goal : ℕ) (numbers₀ affirms₀ numbers affirms ns bs : List ℕ)
+    (count number affirm i : ℕ)
     : Type 0 where
   pub so-far : i ≤ length steps
   pub few : count ≤ mostDepth
@@ -152,7 +155,8 @@ pub record Reached
 
 -- That of step i is written too, and the step opens x.
 pub record Turned
-    (es : List Entry) (steps : List ℕ) (goal : ℕ) (numbers₀ affirms₀ numbers affirms ns bs : List ℕ) (count number i : ℕ) (x : O.Opened)
+    (es : List Entry) (steps : List ℕ) (goal : ℕ) (numbers₀ affirms₀ numbers affirms ns bs : List ℕ)
+    (count number i : ℕ) (x : O.Opened)
     : Type 0 where
   pub so-far : i + 1 ≤ length steps
   pub few : count ≤ mostDepth
@@ -163,7 +167,8 @@ pub record Turned
       (onward es x number (drop (i + 1) steps) (waiting ns bs count))
 
 -- Before the first step, the goal is open and none waits.
-pub reached-none : (es : List Entry) (steps : List ℕ) (goal : ℕ) (numbers affirms ns bs : List ℕ) → length ns ≡ mostDepth → length bs ≡ mostDepth
+pub reached-none : (es : List Entry) (steps : List ℕ) (goal : ℕ) (numbers affirms ns bs : List ℕ)
+    → length ns ≡ mostDepth → length bs ≡ mostDepth
     → Reached es steps goal numbers affirms numbers affirms ns bs 0 goal 0 0
 unfolding waiting
 reached-none es steps goal numbers affirms ns bs room room-too = record {
@@ -177,9 +182,11 @@ reached-none es steps goal numbers affirms ns bs room room-too = record {
 -- all are written
 abbrev pub Writes : List Entry → List ℕ → ℕ → List ℕ → List ℕ → List ℕ → List ℕ → Type 0
 Writes es steps goal numbers₀ affirms₀ numbers affirms =
-    (numbers ≡ written numbers₀ (numbersOf (goalsOf es steps goal))) × (affirms ≡ written affirms₀ (affirmsOf (goalsOf es steps goal)))
+    (numbers ≡ written numbers₀ (numbersOf (goalsOf es steps goal)))
+    × (affirms ≡ written affirms₀ (affirmsOf (goalsOf es steps goal)))
 
-module _ {es : List Entry} {steps : List ℕ} {goal : ℕ} {numbers₀ affirms₀ numbers affirms ns bs : List ℕ} {count number i : ℕ} where
+module _ {es : List Entry} {steps : List ℕ} {goal : ℕ} {numbers₀ affirms₀ numbers affirms ns bs : List ℕ}
+    {count number i : ℕ} where
   module _ {affirm : ℕ} (h : Reached es steps goal numbers₀ affirms₀ numbers affirms ns bs count number affirm i) where
     pub reached-lengths : (length numbers ≡ length numbers₀) × (length affirms ≡ length affirms₀)
     reached-lengths = done-lengths (h .is-done)
@@ -196,7 +203,8 @@ module _ {es : List Entry} {steps : List ℕ} {goal : ℕ} {numbers₀ affirms�
         → x ≡ tested (getD (rules same es) code unknown) true part here
         → Turned es steps goal numbers₀ affirms₀ numbers′ affirms′ ns bs count number i x
     turned {x = x} l n b goal-is code-is part-is x-is =
-        let opens : x ≡ opensFreely es (getD steps i 0) (goalAt es number affirm) = rw (goal-is, code-is, part-is) at x-is in
+        let opens : x ≡ opensFreely es (getD steps i 0) (goalAt es number affirm) =
+        rw (goal-is, code-is, part-is) at x-is in
         let fits : length (waiting ns bs count) ≤ mostDepth = rw waiting-length (h .few) in
         let next = turn es steps i (kept number affirm) (waiting ns bs count) l fits opens in record {
           so-far = omega arith;
@@ -212,7 +220,9 @@ module _ {es : List Entry} {steps : List ℕ} {goal : ℕ} {numbers₀ affirms�
 
     -- Refused; nothing is open any more; or more wait than may: the goals end.
     pub ends-refused : {r : Bool} → r ≡ isRefused x → r ≡ true → Writes es steps goal numbers₀ affirms₀ numbers affirms
-    ends-refused r-is e = done-all (rw (on-refused es number (drop (i + 1) steps) (waiting ns bs count) x (sym r-is ∙ e)) at (h .is-done))
+    ends-refused r-is e =
+        let on = on-refused es number (drop (i + 1) steps) (waiting ns bs count) x (sym r-is ∙ e) in
+        done-all (rw on at (h .is-done))
 
     pub ends-closed : {r : Bool} {c : ℕ} → r ≡ isRefused x → r ≡ false → c ≡ countOf x → c ≡ 0 → count ≡ 0
         → Writes es steps goal numbers₀ affirms₀ numbers affirms
@@ -222,14 +232,17 @@ module _ {es : List Entry} {steps : List ℕ} {goal : ℕ} {numbers₀ affirms�
         let empty : waiting ns bs count ≡ [] = rw none in
         done-all (rw (on, empty, none-open es (drop (i + 1) steps)) at (h .is-done))
 
-    pub ends-full : {c : ℕ} → c ≡ countOf x → c ≡ 2 → count ≡ mostDepth → Writes es steps goal numbers₀ affirms₀ numbers affirms
+    pub ends-full : {c : ℕ} → c ≡ countOf x → c ≡ 2 → count ≡ mostDepth
+        → Writes es steps goal numbers₀ affirms₀ numbers affirms
     ends-full c-is two full =
-        let on = on-full es number (drop (i + 1) steps) (waiting ns bs count) x (sym c-is ∙ two) (waiting-length ns bs count ∙ full) in
+        let all-wait = waiting-length ns bs count ∙ full in
+        let on = on-full es number (drop (i + 1) steps) (waiting ns bs count) x (sym c-is ∙ two) all-wait in
         done-all (rw on at (h .is-done))
 
     -- No premise: the last that waits is next.
     pub goes-back : {r : Bool} {c : ℕ} → r ≡ isRefused x → r ≡ false → c ≡ countOf x → c ≡ 0 → ¬ (count ≡ 0)
-        → Reached es steps goal numbers₀ affirms₀ numbers affirms ns bs (count - 1) (getD ns (count - 1) 0) (getD bs (count - 1) 0) (i + 1)
+        → Reached es steps goal numbers₀ affirms₀ numbers affirms ns bs (count - 1)
+        (getD ns (count - 1) 0) (getD bs (count - 1) 0) (i + 1)
     goes-back r-is e c-is z some =
         let on = on-closed es number (drop (i + 1) steps) (waiting ns bs count) x (sym r-is ∙ e) (sym c-is ∙ z) in
         let top = popped ns bs count (omega (arith, some)) in record {
@@ -244,7 +257,9 @@ module _ {es : List Entry} {steps : List ℕ} {goal : ℕ} {numbers₀ affirms�
     pub goes-on : {c : ℕ} {first : Kept} → c ≡ countOf x → ¬ (c ≡ 0) → ¬ (c ≡ 2) → first ≡ firstKept number x
         → Reached es steps goal numbers₀ affirms₀ numbers affirms ns bs count (first .number) (first .affirms) (i + 1)
     goes-on c-is z t first-is =
-        let on = on-one es number (drop (i + 1) steps) (waiting ns bs count) x (λ e. z (c-is ∙ e)) (λ e. t (c-is ∙ e)) in record {
+        let on = on-one es number (drop (i + 1) steps) (waiting ns bs count) x (λ e. z (c-is ∙ e))
+        (λ e. t (c-is ∙ e)) in
+        record {
           so-far = h .so-far;
           few = h .few;
           room = h .room;
@@ -253,10 +268,10 @@ module _ {es : List Entry} {steps : List ℕ} {goal : ℕ} {numbers₀ affirms�
         }
 
     -- Two: the first is next and the last waits.
-    pub goes-down : {c : ℕ} {first last : Kept} → c ≡ countOf x → c ≡ 2 → ¬ (count ≡ mostDepth) → first ≡ firstKept number x
-        → last ≡ lastKept number x
-        → Reached es steps goal numbers₀ affirms₀ numbers affirms (set ns count (last .number)) (set bs count (last .affirms)) (count + 1)
-        (first .number) (first .affirms) (i + 1)
+    pub goes-down : {c : ℕ} {first last : Kept} → c ≡ countOf x → c ≡ 2 → ¬ (count ≡ mostDepth)
+        → first ≡ firstKept number x → last ≡ lastKept number x
+        → Reached es steps goal numbers₀ affirms₀ numbers affirms (set ns count (last .number))
+        (set bs count (last .affirms)) (count + 1) (first .number) (first .affirms) (i + 1)
     goes-down {last = last} c-is two some first-is last-is =
         let room = h .room in
         let room-too = h .room-too in

@@ -38,7 +38,8 @@ module _ (speaks : ℕ → ℕ → Bool) (limit : ℕ) (es : List Entry) where
       let (ps, takes, closes) = walk-closed speaks limit es w ws p q o os e in
       let (next, rest, left, is) = by-word ws (suc p) q (map (under o) ps ++ os) closes (omega arith) i (omega arith) in
       let lines : List Premise → List Line = λ ps. trace speaks limit es ws (map (under o) ps ++ os) in
-      let on = after-opens (step speaks es limit w o) ps (λ number. []) lines (step-opens speaks limit es w o ps .1 takes) in
+      let opens = step-opens speaks limit es w o ps .1 takes in
+      let on = after-opens (step speaks es limit w o) ps (λ number. []) lines opens in
       (next, rest, (ps, (takes, left)), ap (λ (ls : List Line). getElem? ls i) on ∙ is)
 
 pub lines-by-word : (speaks : ℕ → ℕ → Bool) → LinesByWord speaks

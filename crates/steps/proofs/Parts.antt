@@ -38,8 +38,8 @@ after-same (Opening.One a) refused next other same = same _
 after-same (Opening.Two a b) refused next other same = same _
 
 -- What follows a step that opens premises goes on with them.
-pub after-opens : {A : Type 0} (x : O.Opened) (ps : List Premise) (refused : ℕ → A) (next : List Premise → A) → premises x ≡ some ps
-    → after x refused next ≡ next ps
+pub after-opens : {A : Type 0} (x : O.Opened) (ps : List Premise) (refused : ℕ → A) (next : List Premise → A)
+    → premises x ≡ some ps → after x refused next ≡ next ps
 after-opens (Opening.Refused number) ps refused next e = absurd (Option·none-ne-some ps e)
 after-opens Opening.Closed ps refused next e = let same : [] ≡ ps = cc in ap next same
 after-opens (Opening.One a) ps refused next e = let same : a ∷ [] ≡ ps = cc in ap next same

@@ -24,11 +24,11 @@ use Rattle.goals.proofs.goals.write_goals.Reads as reads
 use Rattle.goals.proofs.goals.write_goals.Lts as lts
 
 abbrev Inv-loop : tie.InvT-loop
-Inv-loop heads seconds goal steps numbers₀ affirms₀ ns₀ bs₀ count₀ n₀ b₀ i₀ numbers affirms ns bs count number affirm i =
+Inv-loop heads seconds goal steps numbers₀ affirms₀ ns₀ bs₀ c₀ n₀ b₀ i₀ numbers affirms ns bs count number affirm i =
     Reached (entries heads seconds) steps goal numbers₀ affirms₀ numbers affirms ns bs count number affirm i
 
 abbrev μ-loop : tie.MeasureT-loop
-μ-loop heads seconds goal steps numbers₀ affirms₀ ns₀ bs₀ count₀ n₀ b₀ i₀ numbers affirms ns bs count number affirm i =
+μ-loop heads seconds goal steps numbers₀ affirms₀ ns₀ bs₀ c₀ n₀ b₀ i₀ numbers affirms ns bs count number affirm i =
     length steps - i
 
 loop-holds : tie.Need-loop-holds Inv-loop μ-loop

@@ -27,13 +27,14 @@ returns c = rw (eq-eqb _ _ (c .before .if1 .taken)) (ap True (c .goal-formula .e
 
 returns-2 : tie.Need-returns-2
 returns-2 c =
-    rw
-    (ne-eqb _ _ (c .before .before .before .before .if1 .left), ← c .before .before .before .entry-at .ensures, c .before .k .given .1)
+    let e = c .before .before .before in
+    rw (ne-eqb _ _ (e .before .if1 .left), ← e .entry-at .ensures, c .before .k .given .1)
 
 returns-3 : tie.Need-returns-3
 returns-3 c =
-    rw (ne-eqb _ _ (c .before .before .before .if1 .left), ← c .before .before .entry-at .ensures)
-    (ap True (c .goal-formula2 .ensures) ∙ sym (not-says (c .before .before .entry-at .result) _ (c .before .match .keys2)))
+    let e = c .before .before in
+    rw (ne-eqb _ _ (e .before .if1 .left), ← e .entry-at .ensures)
+    (ap True (c .goal-formula2 .ensures) ∙ sym (not-says (e .entry-at .result) _ (c .before .match .keys2)))
 
 pub goal-at-spec : {M : Type 1} → statement M
 goal-at-spec =
