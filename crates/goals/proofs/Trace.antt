@@ -1,16 +1,17 @@
--- In a proof that closes, the lines at the goals that are kept are the trace (specs/Goals.antt). In order: what is kept
--- of a goal; a step; the walk. Assumes nothing.
+-- In a proof that closes, the goals that are kept are one for each step, and the lines at them are the trace
+-- (specs/Goals.antt). In order: what is kept of a goal; a step; the walk; one for each step, and written. Assumes
+-- nothing.
 use Prim.Native.Nat.{ℕ, suc, _≤_, _<_}
 use native.Mathlib.Omega.{arith}
 use mathlib.Core.Bool.{true}
 use mathlib.Core.Path.{_≡_, refl, sym, ap, ap₂, _∙_}
 use mathlib.Core.Option.{some}
 use mathlib.Core.List.{List, [], _∷_, _++_, map}
-use lib.ListN.{length, getD}
-use lib.Dec.{eqb}
+use lib.ListN.{length, getD, length-map}
+use lib.Dec.{eqb, leb}
 use borrow.Author.Tests.{eq-eqb, le-leb}
 use Rattle.basics.specs.Limits.{mostDepth}
-use Rattle.basics.specs.Word.{upper, lower}
+use Rattle.basics.specs.Written.{written}
 use Rattle.basics.proofs.Choice.{pick-cases}
 use Rattle.table.specs.declared.entry.Formula.{Formula}
 use Rattle.table.specs.declared.entry.Principal.{Principal}
@@ -21,21 +22,24 @@ use Rattle.table.specs.Tests.{entryAt}
 use Rattle.steps.specs.declared.goal.Goal.{Goal}
 use Rattle.steps.specs.declared.goal.Goal.the-variants.{True, Affirms}
 use Rattle.steps.specs.declared.opened.Premise.{Premise}
+use Rattle.steps.specs.declared.opened.Opened as O
+use Rattle.steps.specs.declared.opened.Opened.the-variants as Opening
 use Rattle.steps.specs.declared.verdict.WalkVerdict.the-variants.{Closed}
 use Rattle.steps.specs.Obligation.{Obligation, under}
 use Rattle.steps.specs.Applies.{Applies, init, affirm, implies-right, implies-left, false-left, and-right, and-left, or-right-first, or-right-second, or-left, says-right, says-left}
 use Rattle.steps.specs.Step.{rules, unknown, step}
-use Rattle.steps.specs.Run.{walk}
+use Rattle.steps.specs.Run.{after, walk}
 use Rattle.steps.specs.Steps.{premises}
 use Rattle.steps.specs.Trace.{Line, trace}
 use Rattle.steps.specs.Figure1.{same}
 use Rattle.steps.proofs.Steps.{step-opens}
 use Rattle.steps.proofs.Closed.{walk-closed, run-closed}
 use Rattle.steps.proofs.Parts.{after-opens}
+use Rattle.steps.proofs.Figure1.{line-per-word}
 use Rattle.rules.specs.Tested.{tested}
 use Rattle.goals.specs.declared.kept.Kept.{Kept}
 use Rattle.goals.specs.Kept.{affirmedBy, goalAt, lineAt, linesAt}
-use Rattle.goals.specs.Goals.{kept, goalOf, keptAs, premisesKept, opensFreely, goalsFrom, numbersOf, affirmsOf, GoalsOfTrace}
+use Rattle.goals.specs.Goals.{kept, goalOf, keptAs, premisesKept, opensFreely, goalsFrom, numbersOf, affirmsOf, goalsOf, GoalPerStep, GoalsOfTrace, GoalsWritten}
 
 -- ---- what is kept of a goal
 
@@ -156,3 +160,64 @@ module _ (es : List Entry) where
 pub goals-of-trace : GoalsOfTrace
 goals-of-trace es ss n ws e =
     walk-lines es ws 0 (length ws) (kept n 0 ∷ []) _ (refl, (omega arith, tt)) (run-closed same mostDepth es _ ws e)
+
+-- ---- one for each step, and written
+
+-- What follows a step is no longer than with its premises.
+after-most : (x : O.Opened) (next : List Premise → List Kept) (n : ℕ) → ((ps : List Premise) → length (next ps) ≤ n)
+    → length (after x (λ number. []) next) ≤ n
+after-most (Opening.Refused number) next n h = omega arith
+after-most Opening.Closed next n h = h _
+after-most (Opening.One a) next n h = h _
+after-most (Opening.Two a b) next n h = h _
+
+module _ (es : List Entry) where
+  -- There are no more goals than steps, and no more lines than goals.
+  goals-most : (ws : List ℕ) (ks : List Kept) → length (goalsFrom es ws ks) ≤ length ws
+  unfolding goalsFrom
+  goals-most [] ks = omega arith
+  goals-most (w ∷ ws) [] = omega arith
+  goals-most (w ∷ ws) (k ∷ ks) =
+      let next : List Premise → List Kept = λ ps. goalsFrom es ws (premisesKept (k .number) ps ++ ks) in
+      let most = after-most (opensFreely es w (goalOf es k)) next (length ws) (λ ps. goals-most ws _) in
+      pick-cases (λ (gs : List Kept). length gs ≤ suc (length ws)) (leb (length ks) mostDepth)
+      {a = k ∷ after (opensFreely es w (goalOf es k)) (λ number. []) next} {b = []} (λ t. omega arith) (λ t. omega arith)
+
+  lines-most : (ws ns bs : List ℕ) → length (linesAt es ws ns bs) ≤ length ns
+  unfolding linesAt
+  lines-most [] ns bs = omega arith
+  lines-most (w ∷ ws) [] bs = omega arith
+  lines-most (w ∷ ws) (n ∷ ns) [] = omega arith
+  lines-most (w ∷ ws) (n ∷ ns) (b ∷ bs) = let most = lines-most ws ns bs in omega arith
+
+  -- Lines that are written over others, as far as the steps go.
+  lines-written : (ws ns bs numbers affirms : List ℕ) → length ws ≤ length ns → length ws ≤ length bs
+      → length ws ≤ length numbers → length ws ≤ length affirms
+      → linesAt es ws (written numbers ns) (written affirms bs) ≡ linesAt es ws ns bs
+  unfolding linesAt written
+  lines-written [] ns bs numbers affirms h i j k = refl
+  lines-written (w ∷ ws) [] bs numbers affirms h i j k = absurd (omega arith)
+  lines-written (w ∷ ws) (n ∷ ns) [] numbers affirms h i j k = absurd (omega arith)
+  lines-written (w ∷ ws) (n ∷ ns) (b ∷ bs) [] affirms h i j k = absurd (omega arith)
+  lines-written (w ∷ ws) (n ∷ ns) (b ∷ bs) (m ∷ numbers) [] h i j k = absurd (omega arith)
+  lines-written (w ∷ ws) (n ∷ ns) (b ∷ bs) (m ∷ numbers) (a ∷ affirms) h i j k =
+      ap (λ (ls : List Line). lineAt es w (goalAt es n b) ∷ ls)
+      (lines-written ws ns bs numbers affirms (omega arith) (omega arith) (omega arith) (omega arith))
+
+pub goal-per-step : GoalPerStep
+goal-per-step es ss n ws e =
+    let gs = goalsOf es ws n in
+    let lines = ap length (goals-of-trace es ss n ws e) ∙ line-per-word es _ ws e in
+    let least = lines-most es ws (numbersOf gs) (affirmsOf gs) in
+    let most = goals-most es ws (kept n 0 ∷ []) in
+    let same-count : length (numbersOf gs) ≡ length gs = length-map gs (λ k. k .number) in
+    omega arith
+
+pub goals-written : GoalsWritten
+goals-written es ss n ws e numbers affirms i j =
+    let gs = goalsOf es ws n in
+    let each = goal-per-step es ss n ws e in
+    let ns : length (numbersOf gs) ≡ length gs = length-map gs (λ k. k .number) in
+    let bs : length (affirmsOf gs) ≡ length gs = length-map gs (λ k. k .affirms) in
+    lines-written es ws (numbersOf gs) (affirmsOf gs) numbers affirms (omega arith) (omega arith) i j
+    ∙ goals-of-trace es ss n ws e

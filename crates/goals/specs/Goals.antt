@@ -1,6 +1,6 @@
 -- The goal of each step of a proof, found from the steps alone once they have passed their tests: no hypotheses are
 -- looked up again. Proved in proofs/Trace.antt. Assumes nothing.
-use Prim.Native.Nat.{ℕ}
+use Prim.Native.Nat.{ℕ, _≤_}
 use mathlib.Core.Bool.{true}
 use mathlib.Core.Path.{_≡_}
 use mathlib.Core.List.{List, [], _∷_, _++_, map}
@@ -9,6 +9,7 @@ use lib.Dec.{leb}
 use Rattle.basics.specs.Choice.{pick}
 use Rattle.basics.specs.Limits.{mostDepth}
 use Rattle.basics.specs.Word.{upper, lower}
+use Rattle.basics.specs.Written.{written}
 use Rattle.table.specs.declared.entry.Entry.{Entry}
 use Rattle.steps.specs.declared.goal.Goal.{Goal}
 use Rattle.steps.specs.declared.goal.Goal.the-variants.{True, Affirms}
@@ -66,8 +67,22 @@ numbersOf ks = map (λ k. k .number) ks
 abbrev pub affirmsOf : List Kept → List ℕ
 affirmsOf ks = map (λ k. k .affirms) ks
 
--- In a proof that closes, the lines at these goals are the trace.
+-- In a proof that closes there is one for each step,
+abbrev pub GoalPerStep : Type 0
+GoalPerStep =
+    (es : List Entry) (ss : List ℕ) (n : ℕ) (ws : List ℕ) → run es ws (obligation ss n ∷ []) ≡ Closed (length ws)
+    → length (goalsOf es ws n) ≡ length ws
+
+-- the lines at these goals are the trace,
 abbrev pub GoalsOfTrace : Type 0
 GoalsOfTrace =
     (es : List Entry) (ss : List ℕ) (n : ℕ) (ws : List ℕ) → run es ws (obligation ss n ∷ []) ≡ Closed (length ws)
     → linesAt es ws (numbersOf (goalsOf es ws n)) (affirmsOf (goalsOf es ws n)) ≡ trace es ws (obligation ss n ∷ [])
+
+-- and so they are where the goals are written over lists with room for them.
+abbrev pub GoalsWritten : Type 0
+GoalsWritten =
+    (es : List Entry) (ss : List ℕ) (n : ℕ) (ws : List ℕ) → run es ws (obligation ss n ∷ []) ≡ Closed (length ws)
+    → (numbers affirms : List ℕ) → length ws ≤ length numbers → length ws ≤ length affirms
+    → linesAt es ws (written numbers (numbersOf (goalsOf es ws n))) (written affirms (affirmsOf (goalsOf es ws n)))
+    ≡ trace es ws (obligation ss n ∷ [])

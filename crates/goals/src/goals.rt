@@ -1,6 +1,5 @@
 // The goal of each step of a proof whose steps have passed their tests, found by one pass over the steps: no hypotheses
 // are looked up again.
-ghost use mathlib.Core.Bool.{Bool};
 ghost use mathlib.Core.Path.{_≡_};
 ghost use Rattle.basics.specs.Written.{written};
 ghost use Rattle.table.specs.Tests.{entries};

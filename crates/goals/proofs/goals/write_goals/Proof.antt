@@ -1,8 +1,7 @@
 -- `goals::goals::write_goals` meets its contract. The loop's invariant is `Reached` (proofs/Written.antt). Assumes
 -- nothing.
 use Prim.Native.Nat.{_-_}
-use native.Mathlib.Omega.{arith}
-use mathlib.Core.Path.{_≡_, refl}
+use mathlib.Core.Path.{refl}
 use mathlib.Core.Logic.{⊎-elim}
 use lib.ListN.{length}
 use borrow.Author.Needs.{needs}
