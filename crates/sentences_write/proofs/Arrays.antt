@@ -1,35 +1,37 @@
--- A call over a record's arrays: once the record's own tests have passed, the lines at the goals that `write_goals` keeps
--- are the trace. Assumes nothing.
-use Prim.Native.Nat.{ℕ, _≤_, _<_}
+-- A call over a record's arrays: what has passed the record's own tests closes, so the lines at the goals that
+-- `write_goals` keeps are the trace; and each answer of the code is a case of `arraysAnswer`. Assumes nothing.
+use Prim.Native.Nat.{ℕ, _+_, _≤_, _<_}
 use native.Mathlib.Omega.{arith}
-use mathlib.Core.Bool.{Bool, true, false}
-use mathlib.Core.Path.{_≡_, refl, sym, ap, _∙_}
+use mathlib.Core.Bool.{Bool}
+use mathlib.Core.Path.{_≡_, sym, ap, _∙_}
 use mathlib.Core.List.{List, [], _∷_}
 use lib.ListN.{length, replicate, length-replicate}
 use lib.Dec.{ltb}
+use borrow.Author.Tests.{lt-ltb}
 use Rattle.basics.specs.declared.tested.Tested.{Tested}
 use Rattle.basics.specs.declared.tested.Tested.the-variants as Outcome
 use Rattle.basics.specs.declared.tested.Tested.the-variants.{Passed}
 use Rattle.basics.specs.Choice.{pick}
-use Rattle.basics.specs.Limits.{mostSteps}
+use Rattle.basics.specs.Limits.{mostFormulas, mostSteps}
 use Rattle.basics.specs.Refusals.{firstRefusal, unlessRefused}
-use Rattle.basics.specs.Written.{written}
+use Rattle.basics.specs.Written.{written, writtenAt}
 use Rattle.basics.proofs.Asked.{at0-nowhere, not-less, not-other}
 use Rattle.basics.proofs.Refusals.{passed-by-all}
-use Rattle.table.specs.declared.entry.Entry.{Entry}
+use Rattle.text.specs.Fill.{placeAfter}
+use Rattle.text.proofs.Places.{fill-fits}
 use Rattle.table.specs.Tests.{entries}
+use Rattle.table.proofs.Entries.{length-entries}
 use Rattle.steps.specs.declared.verdict.WalkVerdict.the-variants.{Closed}
 use Rattle.steps.specs.Obligation.{obligation}
-use Rattle.steps.specs.Trace.{Line}
-use Rattle.steps.specs.Figure1.{run, trace}
-use Rattle.steps.proofs.Figure1.{closed-uses-all, line-per-word}
+use Rattle.steps.specs.Figure1.{run}
+use Rattle.steps.proofs.Figure1.{closed-uses-all}
 use Rattle.steps.proofs.Walked.{walked-nowhere}
 use Rattle.signers.specs.Signers.{signers}
 use Rattle.record_check.specs.Parts.{contentTests, SizesFit}
 use Rattle.record_check.proofs.PartTests.{sizes-fit-exactly}
-use Rattle.goals.specs.Kept.{goalAt, lineAt, linesAt}
+use Rattle.goals.specs.Kept.{linesAt}
 use Rattle.goals.specs.Goals.{goalsOf, numbersOf, affirmsOf}
-use Rattle.goals.proofs.Trace.{goals-of-trace}
+use Rattle.goals.proofs.Trace.{goals-written}
 use Rattle.sentences.specs.declared.verdict.SentencesVerdict.{SentencesVerdict}
 use Rattle.sentences.specs.declared.verdict.SentencesVerdict.the-variants.{Written, Refused}
 use Rattle.sentences.specs.Sentences.{sentencesFrom}
@@ -42,44 +44,23 @@ use Rattle.sentences_write.proofs.Lengths.{capped-below}
 module _ (heads seconds statements : List ℕ) (goal : ℕ) (steps : List ℕ) (room : ℕ)
     {t : Tested} (judged : t ≡ firstRefusal (contentTests heads seconds statements goal steps room)) (passed : t ≡ Passed)
   where
-    pub sizes : SizesFit heads seconds statements
+    sizes : SizesFit heads seconds statements
     sizes =
         let (two, _) = passed-by-all (contentTests heads seconds statements goal steps room) .0 (sym judged ∙ passed) in
         at0-nowhere _ (not-other _ (sizes-fit-exactly heads seconds statements)) .0 two
 
-    pub closes : run (entries heads seconds) steps (obligation statements goal ∷ []) ≡ Closed (length steps)
+    -- there are no more formulas than 2 allows
+    pub few-entries : length (entries heads seconds) ≤ mostFormulas
+    few-entries = let few = sizes .few-formulas in omega (arith, length-entries heads seconds)
+
+    closes : run (entries heads seconds) steps (obligation statements goal ∷ []) ≡ Closed (length steps)
     closes =
         let (_, (_, (_, (_, (_, (_, (walk, _))))))) = passed-by-all (contentTests heads seconds statements goal steps room) .0 (sym judged ∙ passed) in
         let (q, closed) = walked-nowhere (run (entries heads seconds) steps (obligation statements goal ∷ [])) .0 walk in
         closed ∙ ap Closed (closed-uses-all (entries heads seconds) (obligation statements goal ∷ []) steps q closed)
 
--- ---- the lines at the goals that are kept
-
--- Written over longer lists they are the same.
-lines-written :
-    (es : List Entry) (ws ns bs ms cs : List ℕ) → length (linesAt es ws ns bs) ≡ length ws
-    → length ws ≤ length ms → length ws ≤ length cs → linesAt es ws (written ms ns) (written cs bs) ≡ linesAt es ws ns bs
-unfolding linesAt written
-lines-written es [] ns bs ms cs all l k = refl
-lines-written es (w ∷ ws) [] bs ms cs all l k = absurd (omega (arith, all))
-lines-written es (w ∷ ws) (n ∷ ns) [] ms cs all l k = absurd (omega (arith, all))
-lines-written es (w ∷ ws) (n ∷ ns) (b ∷ bs) [] cs all l k = absurd (omega arith)
-lines-written es (w ∷ ws) (n ∷ ns) (b ∷ bs) (m ∷ ms) [] all l k = absurd (omega arith)
-lines-written es (w ∷ ws) (n ∷ ns) (b ∷ bs) (m ∷ ms) (c ∷ cs) all l k =
-    ap (λ (ls : List Line). lineAt es w (goalAt es n b) ∷ ls) (lines-written es ws ns bs ms cs (omega (arith, all)) (omega arith) (omega arith))
-
-pub lines-are :
-    (es : List Entry) (statements : List ℕ) (goal : ℕ) (steps ms cs : List ℕ) {ns bs : List ℕ}
-    → run es steps (obligation statements goal ∷ []) ≡ Closed (length steps)
-    → length steps ≤ length ms → length steps ≤ length cs
-    → ns ≡ written ms (numbersOf (goalsOf es steps goal)) → bs ≡ written cs (affirmsOf (goalsOf es steps goal))
-    → linesAt es steps ns bs ≡ trace es steps (obligation statements goal ∷ [])
-lines-are es statements goal steps ms cs {ns} {bs} closed l k en eb =
-    let lines = goals-of-trace es statements goal steps closed in
-    let all = ap length lines ∙ line-per-word es (obligation statements goal ∷ []) steps closed in
-    (λ i. linesAt es steps (en i) (eb i))
-    ∙ lines-written es steps (numbersOf (goalsOf es steps goal)) (affirmsOf (goalsOf es steps goal)) ms cs all l k
-    ∙ lines
+zero-then : (n : ℕ) → 0 + n ≡ n
+zero-then n = omega arith
 
 -- ---- each answer of the code is a case of `arraysAnswer`
 
@@ -111,8 +92,9 @@ module _ (heads seconds statements : List ℕ) (goal : ℕ) (steps : List ℕ) (
         text-is =
             let zeros = length-replicate {A = ℕ} mostSteps 0 in
             ap (sentencesFrom 0)
-            (lines-are (entries heads seconds) statements goal steps (replicate mostSteps 0) (replicate mostSteps 0)
-            (closes heads seconds statements goal steps room judged passed) (omega (arith, zeros)) (omega (arith, zeros)) numbers affirms)
+            ((λ i. linesAt (entries heads seconds) steps (numbers i) (affirms i))
+            ∙ goals-written (entries heads seconds) statements goal steps (closes heads seconds statements goal steps room judged passed)
+            (replicate mostSteps 0) (replicate mostSteps 0) (omega (arith, zeros)) (omega (arith, zeros)))
 
         module _ {n : ℕ} (measured : n ≡ capped (length (sentencesFrom 0 (linesAt (entries heads seconds) steps ns bs)))) (room-for : bytes < tooLong) where
           -- its length, where it is capped
@@ -120,12 +102,20 @@ module _ (heads seconds statements : List ℕ) (goal : ℕ) (steps : List ℕ) (
           length-is =
               ap (ltb bytes) (measured ∙ ap (λ (l : List ℕ). capped (length l)) text-is) ∙ capped-below bytes (length text) room-for
 
-          pub refused-16 : ltb bytes n ≡ true → Refused 16 0 ≡ all
-          refused-16 short = sym (after-15 ∙ ap by-16 (sym length-is ∙ short))
+          pub refused-16 : bytes < n → Refused 16 0 ≡ all
+          refused-16 short = sym (after-15 ∙ ap by-16 (sym length-is ∙ lt-ltb bytes n short))
 
-          pub text-fits : ltb bytes n ≡ false → length text ≤ bytes
-          text-fits fits = not-less bytes (length text) .0 (sym length-is ∙ fits)
-
-          pub all-written : {count size : ℕ} → ltb bytes n ≡ false → count ≡ length (signers (entries heads seconds) statements) → size ≡ length text
-              → Written count size ≡ all
-          all-written fits counted sized = (λ i. Written (counted i) (sized i)) ∙ sym (after-15 ∙ ap by-16 (sym length-is ∙ fits))
+          -- all that is written, the text from the start of bytes that are so many
+          pub all-written : (before : List ℕ) {after : List ℕ} {count size : ℕ} → n ≤ bytes → bytes ≡ length before
+              → count ≡ length (signers (entries heads seconds) statements)
+              → (after ≡ writtenAt before 0 (sentencesFrom 0 (linesAt (entries heads seconds) steps ns bs)))
+              × (size ≡ placeAfter before 0 (sentencesFrom 0 (linesAt (entries heads seconds) steps ns bs)))
+              → (Written count size ≡ all) × (after ≡ written before text)
+          all-written before fits lent counted (filled, placed) =
+              let short = sym length-is ∙ not-less bytes n .1 fits in
+              let enough = not-less bytes (length text) .0 short in
+              let end : placeAfter before 0 text ≡ length text = fill-fits before 0 text (omega arith) ∙ zero-then (length text) in
+              let size-is = placed ∙ ap (placeAfter before 0) text-is ∙ end in (
+                (λ i. Written (counted i) (size-is i)) ∙ sym (after-15 ∙ ap by-16 short),
+                filled ∙ ap (written before) text-is,
+              )

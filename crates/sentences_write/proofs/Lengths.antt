@@ -3,11 +3,11 @@ use Prim.Native.Nat.{ℕ, suc, _+_, _≤_, _<_}
 use native.Mathlib.Decide.{decLt}
 use native.Mathlib.Numerals.{add-one}
 use native.Mathlib.Omega.{arith}
-use mathlib.Core.Path.{_≡_, refl, sym, ap, subst, _∙_}
+use mathlib.Core.Path.{_≡_, sym, ap, _∙_}
 use mathlib.Core.Logic.{_⊎_, ⊎-elim}
 use mathlib.Core.List.{List, [], _∷_, _++_, map, map-append}
 use lib.Dec.{ltb}
-use lib.ListN.{length, take, drop, getD, set, length-append, length-take, length-map, List·getD-map, List·getD-eq-default}
+use lib.ListN.{length, take, drop, getD, set, length-append, length-map, List·getD-map, List·getD-eq-default}
 use lib.Seq.{split-at, getD-at, length-take-le, take-all, take-at}
 use borrow.Author.Tests.{lt-ltb, le-ltb}
 use Rattle.basics.specs.Written.{written}
@@ -20,7 +20,7 @@ use Rattle.table.specs.Spelled.{among, proposition, spelledAfter, spelled}
 use Rattle.table.proofs.Spelled.{length-spelled, spelled-next, spelled-front}
 use Rattle.sentences.specs.Formula.{propositionText}
 use Rattle.sentences_write.specs.Operand.{inBrackets}
-use Rattle.sentences_write.specs.Length.{tooLong, capped, lengthOf, lengthsOf, CappedBelow}
+use Rattle.sentences_write.specs.Length.{capped, lengthOf, lengthsOf, CappedBelow}
 
 pub capped-below : CappedBelow
 capped-below room n l = by (decLt room n)
@@ -36,7 +36,11 @@ pub length-then : (xs ys : List ℕ) {a b r : ℕ} → a ≡ capped (length xs) 
     → r ≡ capped (length (xs ++ ys))
 length-then xs ys e f g = omega (arith, length-append xs ys)
 
--- the same where the lengths themselves are at hand
+-- the same where the first is at hand as it is,
+pub length-after : (xs ys : List ℕ) {b r : ℕ} → b ≡ capped (length ys) → r ≡ capped (length xs + b) → r ≡ capped (length (xs ++ ys))
+length-after xs ys e f = omega (arith, length-append xs ys)
+
+-- and where both are
 pub length-counted : (xs ys : List ℕ) {b r : ℕ} → b ≡ length ys → r ≡ capped (length xs + b) → r ≡ capped (length (xs ++ ys))
 length-counted xs ys e f = omega (arith, length-append xs ys)
 

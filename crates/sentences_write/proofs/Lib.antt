@@ -5,4 +5,6 @@ pub mod Names
 pub mod Named
 pub mod Reached
 pub mod Lengths
+pub mod LineLengths
 pub mod Arrays
+pub mod Whole

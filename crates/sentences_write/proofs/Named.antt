@@ -2,15 +2,14 @@
 use Prim.Native.Nat.{ℕ}
 use mathlib.Core.Bool.{Bool, true, false}
 use mathlib.Core.Path.{_≡_, sym, ap, ap₂, _∙_}
-use mathlib.Core.Option.{Option, some, none}
-use mathlib.Core.List.{List, [], _++_}
-use lib.ListN.{getD, List·getD-map, List·getD-eq-default}
+use mathlib.Core.Option.{some, none}
+use mathlib.Core.List.{List, _++_}
+use lib.ListN.{List·getD-map, List·getD-eq-default}
 use Rattle.basics.specs.Choice.{pick}
 use Rattle.basics.specs.Word.{upper, lower}
 use Rattle.text.specs.Ascii.{ascii}
 use Rattle.text.specs.Decimal.{decimal}
 use Rattle.text.proofs.Places.{fill-then}
-use Rattle.logic.specs.Proposition.{Proposition}
 use Rattle.table.specs.declared.entry.Entry.{Entry}
 use Rattle.table.specs.Spelled.{spell}
 use Rattle.steps.specs.declared.goal.Goal.{Goal}
@@ -22,7 +21,7 @@ use Rattle.rules.proofs.Tests.{NoneBelow, past}
 use Rattle.goals.specs.Kept.{lineAt}
 use Rattle.sentences.specs.Formula.{propositionText, goalText}
 use Rattle.sentences.specs.Sentences.{ruleName, namedText, lineText}
-use Rattle.sentences_write.specs.Naming.{namings, isNaming, NamingIsNamed}
+use Rattle.sentences_write.specs.Naming.{namings, isNaming, namedAt, NamingIsNamed}
 use Rattle.sentences_write.proofs.Filled.{Filled, filled-as, filled-none}
 
 pub naming-is-named : NamingIsNamed
@@ -39,12 +38,8 @@ pub naming-none : (code : ℕ) → NoneBelow 12 code → false ≡ isNaming code
 unfolding isNaming
 naming-none code other = sym (List·getD-eq-default namings false (past 12 code other))
 
--- the text of what the rule of a code names by a number
-abbrev pub namedAt : List Entry → ℕ → ℕ → List ℕ
-namedAt es code n = namedText (namedBy es (getD (rules same es) code unknown) n)
-
--- what it is, where it is known whether the rule names a formula
-named-text : (es : List Entry) (code n : ℕ) {naming b : Bool} → naming ≡ isNaming code → naming ≡ b
+-- the text of what a rule names, where it is known whether it names a formula
+pub named-text : (es : List Entry) (code n : ℕ) {naming b : Bool} → naming ≡ isNaming code → naming ≡ b
     → namedText (pick b (some (spell es n)) none) ≡ namedAt es code n
 named-text es code n e is =
     ap (λ (t : Bool). namedText (pick t (some (spell es n)) none)) (sym is ∙ e) ∙ ap namedText (sym (naming-is-named es code n))

@@ -1,14 +1,12 @@
 -- What a loop asks for that goes through the lines, one after the other. Assumes nothing.
-use Prim.Native.Nat.{ℕ, suc, _+_, _≤_, _<_}
+use Prim.Native.Nat.{ℕ, _+_, _≤_, _<_}
 use native.Mathlib.Numerals.{add-one}
-use native.Mathlib.Omega.{arith}
 use mathlib.Core.Path.{_≡_, refl, sym, ap, subst, _∙_}
-use mathlib.Core.Logic.{_⊎_, inl, inr, ⊎-elim}
+use mathlib.Core.Logic.{_⊎_, ⊎-elim}
 use mathlib.Core.List.{List, [], _∷_, _++_, append-assoc, append-nil}
 use lib.ListN.{length, drop, getD, drop-of-length-le}
 use lib.Seq.{drop-cons}
 use Rattle.table.specs.declared.entry.Entry.{Entry}
-use Rattle.steps.specs.Trace.{Line}
 use Rattle.goals.specs.Kept.{goalAt, lineAt, linesAt}
 use Rattle.sentences.specs.Sentences.{lineText, sentencesFrom}
 
@@ -56,9 +54,6 @@ module _ (es : List Entry) (ws ns bs : List ℕ) (i : ℕ) where
   unfolding sentencesFrom
   no-line e = ap (sentencesFrom i) (⊎-elim words (⊎-elim numbers affirms) e)
     where
-      none : List Line
-      none = []
-
       words : length ws ≤ i → linesAt es (drop i ws) (drop i ns) (drop i bs) ≡ []
       words l = rw (drop-of-length-le ws l) (none-words es (drop i ns) (drop i bs))
 

@@ -11,6 +11,7 @@ use Rattle.table.specs.Spelled.{spell}
 use Rattle.steps.specs.Step.{rules, unknown}
 use Rattle.steps.specs.Trace.{namedBy}
 use Rattle.steps.specs.Figure1.{same}
+use Rattle.sentences.specs.Sentences.{namedText}
 
 -- in the order of the codes; what is no rule names nothing
 abbrev pub namings : List Bool
@@ -25,3 +26,7 @@ abbrev pub NamingIsNamed : Type 0
 NamingIsNamed =
     (es : List Entry) (code n : ℕ)
     → namedBy es (getD (rules same es) code unknown) n ≡ pick (isNaming code) (some (spell es n)) none
+
+-- the text of what the rule of a code names by a number
+abbrev pub namedAt : List Entry → ℕ → ℕ → List ℕ
+namedAt es code n = namedText (namedBy es (getD (rules same es) code unknown) n)

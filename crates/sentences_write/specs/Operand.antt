@@ -11,5 +11,10 @@ use Rattle.sentences.specs.Formula.{propositionText}
 abbrev pub operandText : List Entry → ℕ → ℕ → List ℕ
 operandText es n f = propositionText (among (spelled (take n es)) f)
 
+-- as `bracketed` of the crate sentences, where the word is bytes
 abbrev pub inBrackets : List ℕ → List ℕ → List ℕ → List ℕ
 inBrackets left word right = ascii "(" ++ (left ++ (word ++ (right ++ ascii ")")))
+
+-- two operands of entry n, with a word in the middle
+abbrev pub pairText : List Entry → ℕ → ℕ → List ℕ → ℕ → List ℕ
+pairText es n a word b = inBrackets (operandText es n a) word (operandText es n b)

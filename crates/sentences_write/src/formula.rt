@@ -10,7 +10,7 @@ ghost use Rattle.text.specs.Fill.{placeAfter};
 ghost use Rattle.table.specs.Tests.{entries};
 ghost use Rattle.table.specs.Spelled.{spell};
 ghost use Rattle.sentences.specs.Formula.{propositionText, principalText};
-ghost use Rattle.sentences_write.specs.Operand.{operandText, inBrackets};
+ghost use Rattle.sentences_write.specs.Operand.{operandText, pairText, inBrackets};
 use table::entry::Atom;
 use table::entry::Entry;
 use table::entry::Formula;
@@ -67,8 +67,8 @@ fn fill_pair(
     text: &mut [u8],
     at: usize,
 ) -> usize
-    ensures { λ _. ⌜ now (text .exit) ≡ writtenAt (now (text .entry)) at (inBrackets (operandText (entries (now (heads .entry)) (now (seconds .entry))) n (a .0)) (now (word .entry)) (operandText (entries (now (heads .entry)) (now (seconds .entry))) n (b .0))) ⌝ }
-    ensures { λ r. ⌜ r ≡ placeAfter (now (text .entry)) at (inBrackets (operandText (entries (now (heads .entry)) (now (seconds .entry))) n (a .0)) (now (word .entry)) (operandText (entries (now (heads .entry)) (now (seconds .entry))) n (b .0))) ⌝ }
+    ensures { λ _. ⌜ now (text .exit) ≡ writtenAt (now (text .entry)) at (pairText (entries (now (heads .entry)) (now (seconds .entry))) n (a .0) (now (word .entry)) (b .0)) ⌝ }
+    ensures { λ r. ⌜ r ≡ placeAfter (now (text .entry)) at (pairText (entries (now (heads .entry)) (now (seconds .entry))) n (a .0) (now (word .entry)) (b .0)) ⌝ }
 {
     let mut end = fill(text, at, b"(");
     end = fill_operand(heads, seconds, n, a, text, end);

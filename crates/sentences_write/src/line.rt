@@ -1,18 +1,14 @@
 // The line of a step: its number, the rule's name, the formula that it names, if any, the word for, and the goal. Each
 // function writes from the place `at` on, as far as there is room, and gives the place after what it wrote.
 ghost use mathlib.Core.Path.{_≡_};
-ghost use lib.ListN.{getD};
 ghost use Rattle.basics.specs.Written.{writtenAt};
 ghost use Rattle.text.specs.Fill.{placeAfter};
 ghost use Rattle.table.specs.Tests.{entries};
 ghost use Rattle.steps.specs.Carried.{judgment};
-ghost use Rattle.steps.specs.Figure1.{same};
-ghost use Rattle.steps.specs.Step.{rules, unknown};
-ghost use Rattle.steps.specs.Trace.{namedBy};
 ghost use Rattle.goals.specs.Kept.{lineAt};
 ghost use Rattle.sentences.specs.Formula.{goalText};
-ghost use Rattle.sentences.specs.Sentences.{namedText, lineText};
-ghost use Rattle.sentences_write.specs.Naming.{isNaming};
+ghost use Rattle.sentences.specs.Sentences.{lineText};
+ghost use Rattle.sentences_write.specs.Naming.{isNaming, namedAt};
 use crate::formula::fill_formula;
 use crate::formula::fill_principal;
 use crate::name::fill_name;
@@ -52,8 +48,8 @@ fn fill_named(
     text: &mut [u8],
     at: usize,
 ) -> usize
-    ensures { λ _. ⌜ now (text .exit) ≡ writtenAt (now (text .entry)) at (namedText (namedBy (entries (now (heads .entry)) (now (seconds .entry))) (getD (rules same (entries (now (heads .entry)) (now (seconds .entry)))) code unknown) n)) ⌝ }
-    ensures { λ r. ⌜ r ≡ placeAfter (now (text .entry)) at (namedText (namedBy (entries (now (heads .entry)) (now (seconds .entry))) (getD (rules same (entries (now (heads .entry)) (now (seconds .entry)))) code unknown) n)) ⌝ }
+    ensures { λ _. ⌜ now (text .exit) ≡ writtenAt (now (text .entry)) at (namedAt (entries (now (heads .entry)) (now (seconds .entry))) code n) ⌝ }
+    ensures { λ r. ⌜ r ≡ placeAfter (now (text .entry)) at (namedAt (entries (now (heads .entry)) (now (seconds .entry))) code n) ⌝ }
 {
     if is_naming(code) {
         let end = fill(text, at, b" ");

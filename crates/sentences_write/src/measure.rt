@@ -1,20 +1,18 @@
-// The length of the whole text, told before any of it is written: "A refusal .. changes nothing that is lent" (01). It
-// takes a look at each line's parts, whose formulas are measured (`length`), and stops growing as their lengths do.
+// The length of the whole text, told before any of it is written: "A refusal .. changes nothing that is lent" (01). Its
+// formulas are measured before (`length`), and it stops growing where their lengths do.
 ghost use Prim.Native.Nat.{_≤_};
 ghost use mathlib.Core.Path.{_≡_};
 ghost use mathlib.Core.List.{List};
-ghost use lib.ListN.{length, getD};
+ghost use lib.ListN.{length};
 ghost use Rattle.basics.specs.Limits.{mostFormulas};
 ghost use Rattle.table.specs.declared.entry.Entry.{Entry};
 ghost use Rattle.table.specs.Tests.{entries};
 ghost use Rattle.steps.specs.Carried.{judgment};
-ghost use Rattle.steps.specs.Figure1.{same};
-ghost use Rattle.steps.specs.Step.{rules, unknown};
-ghost use Rattle.steps.specs.Trace.{namedBy};
 ghost use Rattle.goals.specs.Kept.{lineAt, linesAt};
 ghost use Rattle.sentences.specs.Formula.{goalText};
-ghost use Rattle.sentences.specs.Sentences.{namedText, lineText, sentencesFrom};
+ghost use Rattle.sentences.specs.Sentences.{lineText, sentencesFrom};
 ghost use Rattle.sentences_write.specs.Length.{capped, lengthsOf, Holds};
+ghost use Rattle.sentences_write.specs.Naming.{namedAt};
 use crate::length::formula_length;
 use crate::length::measure_formulas;
 use crate::length::principal_length;
@@ -30,7 +28,7 @@ use text::decimal::decimal_length;
 
 // A blank and the formula of number n, where the rule of the code names one.
 fn named_length(lengths: &[usize], code: u16, n: u16) -> usize
-    ensures { λ r. ⌜ ((es : List Entry) → now (lengths .entry) ≡ lengthsOf es → r ≡ capped (length (namedText (namedBy es (getD (rules same es) code unknown) n)))) ⌝ }
+    ensures { λ r. ⌜ ((es : List Entry) → now (lengths .entry) ≡ lengthsOf es → r ≡ capped (length (namedAt es code n))) ⌝ }
 {
     if is_naming(code) {
         return sum(1, formula_length(lengths, n));
@@ -93,7 +91,7 @@ fn entry_count(heads: &[u16], seconds: &[u16]) -> usize
 }
 
 // The length of what `fill_lines` writes, where the lengths hold those of the table's formulas.
-pub(crate) fn text_length(
+fn text_length(
     heads: &[u16],
     seconds: &[u16],
     lengths: &[usize],
@@ -108,7 +106,7 @@ pub(crate) fn text_length(
     lines_length(heads, seconds, &lengths[..count], steps, numbers, affirms)
 }
 
-// The same, with the formulas measured here.
+// The same, with the formulas measured first.
 pub(crate) fn whole_length(
     heads: &[u16],
     seconds: &[u16],

@@ -1,4 +1,4 @@
--- `length::formula_length` meets its contract, for a number that has a length and for one that has none. Assumes nothing.
+-- `length::formula_length` meets its contract, whether a number has a length or none. Assumes nothing.
 use borrow.Author.Needs.{needs}
 use denote.Ref.{now}
 use Rattle.sentences_write.proofs.Lengths.{length-made, length-unmade}

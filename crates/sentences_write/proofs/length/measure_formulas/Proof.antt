@@ -1,4 +1,5 @@
--- `length::measure_formulas` meets its contract. The loop's invariant: the entries before i are measured. Assumes nothing.
+-- `length::measure_formulas` meets its contract. The loop's invariant: the entries before i are measured. Assumes
+-- nothing.
 use Prim.Native.Nat.{_-_, _<_, _≤_}
 use native.Mathlib.Omega.{arith}
 use mathlib.Core.Path.{_≡_, refl, sym, ap, _∙_}

@@ -1,14 +1,13 @@
 -- `line::fill_goal` meets its contract, for a truth and for an affirmation. Assumes nothing.
-use mathlib.Core.Path.{_≡_, sym, ap}
+use mathlib.Core.Path.{sym, ap}
 use borrow.Author.Needs.{needs}
 use denote.Ref.{now}
 use Rattle.text.specs.Ascii.{ascii}
 use Rattle.text.proofs.Places.{fill-then}
 use Rattle.table.specs.Tests.{entries}
-use Rattle.table.specs.Spelled.{spell}
 use Rattle.steps.specs.declared.goal.Goal.{Goal}
 use Rattle.steps.specs.Carried.{judgment}
-use Rattle.sentences.specs.Formula.{principalText, propositionText, goalText}
+use Rattle.sentences.specs.Formula.{goalText}
 use Rattle.sentences_write.proofs.Filled.{filled-as}
 use Rattle.sentences_write.proofs.line.fill_goal.Statement.{statement}
 use Rattle.sentences_write.proofs.line.fill_goal.Tie as tie

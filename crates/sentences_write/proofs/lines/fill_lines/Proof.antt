@@ -1,7 +1,7 @@
 -- `lines::fill_lines` meets its contract. The loop's invariant: the text of the lines before i is written. Assumes
 -- nothing.
 use Prim.Native.Nat.{_-_}
-use mathlib.Core.Path.{_≡_, ap, _∙_}
+use mathlib.Core.Path.{ap, _∙_}
 use mathlib.Core.Logic.{inl, inr}
 use lib.ListN.{length, getD}
 use denote.Ref.{now}
