@@ -44,7 +44,7 @@ pub fn steps(table: &Table, proofs: &[&[u16]]) -> Vec<String> {
 }
 
 /// A step's rule, and the hypothesis that it names.
-fn rule(table: &Table, step: u16) -> String {
+pub fn rule(table: &Table, step: u16) -> String {
     match RULES.get(usize::from(code(step))) {
         Some(name) if names(step) => format!("{name} {}", formula(table, part(step))),
         Some(name) => name.to_string(),
@@ -54,7 +54,7 @@ fn rule(table: &Table, step: u16) -> String {
 
 /// What an entry spells out. Where it has no meaning, as in a table that is wrong, it is told by
 /// its number.
-fn formula(table: &Table, number: u16) -> String {
+pub fn formula(table: &Table, number: u16) -> String {
     let Some(&entry) = table.get(usize::from(number)) else {
         return "no entry".to_string();
     };

@@ -8,8 +8,8 @@ const RECORDS: &str = include_str!("../pages/records.md");
 
 const EXCHANGES: &str = include_str!("../pages/exchanges.md");
 
-/// "Refused, in checking order" (01): the numbers from 1, and the places.
-const REFUSALS: [(&str, &str); 15] = [
+/// "Refused, in checking order" (01), and what 02 adds: the numbers from 1, and the places.
+const REFUSALS: [(&str, &str); 16] = [
     ("The file has fewer than 8 bytes.", "0"),
     ("F, S or N is outside its range.", "0"),
     ("The length isn't that of the sizes.", "0"),
@@ -32,14 +32,20 @@ const REFUSALS: [(&str, &str); 15] = [
     ),
     ("Code 11 names a says-formula of K and the goal isn't an affirmation by K.", "the step"),
     ("The proof is closed and words remain.", "the first of them"),
+    (
+        "Only where the proof is wanted in sentences: the lent bytes are fewer than the whole \
+         text.",
+        "0",
+    ),
 ];
 
 /// What reads otherwise for an exchange file: "the list above without 6 and 8. Places for 7 run
-/// through both lists, for 9 to 15 through all step words; depth starts at 1 in each proof".
+/// through both lists, for 9 to 15 through all step words; depth starts at 1 in each proof". It has
+/// no sentences.
 fn exchange_refusal(number: usize) -> Option<(&'static str, &'static str)> {
     match number {
         2 => Some(("F, S1, S2 or N is outside its range.", "0")),
-        6 | 8 => None,
+        6 | 8 | 16 => None,
         7 => Some((
             "A statement's number is F or more.",
             "the first such position, through the first list and then the second",

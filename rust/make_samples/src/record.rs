@@ -1,6 +1,7 @@
 //! A record as a sample: its parts, and what the page writes of them.
 use crate::in_words;
 use crate::sample::Kind;
+use crate::sentences;
 use builder::layout;
 
 /// A record; nothing says that it is a right one. The table is the heads and seconds of its
@@ -27,5 +28,9 @@ impl Kind for Record {
             ("goal", in_words::formulas(&self.table, &[self.goal])),
             ("steps", in_words::steps(&self.table, &[&self.steps])),
         ]
+    }
+
+    fn sentences(&self) -> Option<String> {
+        Some(sentences::of(self))
     }
 }

@@ -11,6 +11,11 @@ pub trait Kind {
     /// What the page writes of it: a heading and its rows.
     fn parts(&self) -> Vec<(&'static str, Vec<String>)>;
 
+    /// The proof of a granted file in sentences; an exchange file has none.
+    fn sentences(&self) -> Option<String> {
+        None
+    }
+
     fn bytes(&self) -> Vec<u8> {
         layout::bytes(&self.words())
     }
@@ -30,6 +35,13 @@ pub struct Sample<T> {
 impl<T: Kind> Sample<T> {
     pub fn file_name(&self) -> String {
         format!("{}.{}", self.name, T::ENDING)
+    }
+
+    /// The name and the text of the file with its proof in sentences, where it is granted and not
+    /// too long for the page.
+    pub fn sentences(&self) -> Option<(String, String)> {
+        let granted = self.contents.as_ref().filter(|_| self.line.starts_with("granted"));
+        Some((format!("{}.sentences", self.name), granted?.sentences()?))
     }
 }
 

@@ -11,6 +11,9 @@ fn top() -> PathBuf {
     package.ancestors().nth(2).expect("the package stands in the repository's rust/").to_path_buf()
 }
 
+/// The granted record whose proof is too long to be stored in sentences.
+const TOO_LONG: &str = "doubled-40-times.record";
+
 /// The program over the samples, and the link at the top to its files.
 const PROGRAM: &str = "crates/samples";
 const LINK: &str = "samples";
@@ -64,14 +67,51 @@ fn every_sample_has_a_line() {
     let lines: Vec<(&str, &str)> = parted.collect();
     let mut names: Vec<&str> = lines.iter().map(|&(name, _)| name).collect();
     assert_eq!(read("args").lines().collect::<Vec<_>>(), names);
-    for (name, line) in lines {
+    for &(name, line) in &lines {
         let (_, ending) = name.rsplit_once('.').expect(name);
         assert!(is_line(ending, line), "{name} {line}");
     }
 
-    names.extend(["README.md", "EXCHANGES.md"]);
+    let sentences: Vec<String> = granted(&lines);
+    names.extend(sentences.iter().map(String::as_str).chain(["README.md", "EXCHANGES.md"]));
     names.sort();
     assert_eq!(files(&top().join(LINK)).keys().collect::<Vec<_>>(), names);
+}
+
+/// The names of the files with sentences: one for each record that is granted, but for the one that
+/// is too long.
+fn granted(lines: &[(&str, &str)]) -> Vec<String> {
+    let granted = lines.iter().filter(|(name, line)| {
+        line.starts_with("granted") && *name != TOO_LONG && name.ends_with(".record")
+    });
+    granted.map(|(name, _)| name.replace(".record", ".sentences")).collect()
+}
+
+/// "Record A gives .. each ended by a line feed" (02); and two records written out by hand.
+#[test]
+fn sentences_by_hand() {
+    let read = |name: &str| fs::read_to_string(top().join(LINK).join(name)).expect(name);
+    assert_eq!(
+        read("A.sentences"),
+        "0 says right for (p7 says a0)\n\
+         1 says left (p7 says a0) for p7 affirms a0\n\
+         2 affirm for p7 affirms a0\n\
+         3 init a0 for a0\n"
+    );
+    assert_eq!(
+        read("false-said-by-oneself.sentences"),
+        "0 says right for (p7 says a0)\n\
+         1 says left (p7 says false) for p7 affirms a0\n\
+         2 false left false for p7 affirms a0\n"
+    );
+    assert_eq!(
+        read("or-left.sentences"),
+        "0 or left (a0 or a1) for (a1 or a0)\n\
+         1 or right second for (a1 or a0)\n\
+         2 init a0 for a0\n\
+         3 or right first for (a1 or a0)\n\
+         4 init a1 for a1\n"
+    );
 }
 
 /// A line of document 01's for a file of that kind, with signers that rise.

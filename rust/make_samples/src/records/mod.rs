@@ -2,6 +2,7 @@
 //! of its refusals; the checker has no part in it.
 mod errors;
 mod files;
+mod in_sentences;
 mod says;
 
 use crate::record::Record;
@@ -23,6 +24,7 @@ pub fn sections() -> Vec<Section<Record>> {
         errors::misreadings(),
         says::about_says(),
         says::signers(),
+        in_sentences::in_sentences(),
         three_halls::releases(),
     ]
 }

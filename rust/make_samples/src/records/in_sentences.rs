@@ -1,0 +1,126 @@
+//! Records for their proofs in sentences.
+use super::record;
+use crate::record::Record;
+use crate::sample::{bare, sample, Kind, Section};
+use builder::steps::*;
+use builder::table::Entry::{And, Atom, False, Implies, Or, Says};
+use builder::table::Table;
+
+/// A proof with each of the twelve rules.
+fn every_rule() -> Record {
+    let mut table = Table::default();
+    let [a0, a1, a2, a3, a4] = [0, 1, 2, 3, 4].map(|atom| table.number(Atom(atom)));
+    let falsehood = table.number(False);
+    let either = table.number(Or(a0, falsehood));
+    let paper = table.number(Says(7, either));
+    let both = table.number(And(a1, a2));
+    let order = table.number(Implies(a0, both));
+    let [first, second] = [Or(a2, a4), Or(a4, a3)].map(|entry| table.number(entry));
+    let claim = table.number(And(first, second));
+    let said = table.number(Says(7, claim));
+    let goal = table.number(Implies(a3, said));
+    let steps = [
+        IMPLIES_RIGHT,
+        SAYS_RIGHT,
+        SAYS_LEFT + paper,
+        OR_LEFT + either,
+        // the case that a0 is true
+        IMPLIES_LEFT + order,
+        INIT + a0,
+        AND_LEFT + both,
+        AFFIRM,
+        AND_RIGHT,
+        OR_RIGHT_FIRST,
+        INIT + a2,
+        OR_RIGHT_SECOND,
+        INIT + a3,
+        // the case that false is
+        FALSE_LEFT + falsehood,
+    ];
+    record(&table, &[paper, order], goal, &steps)
+}
+
+/// Formulas within formulas in which no two operands are the same, and the goal the other way
+/// round.
+fn other_way_round() -> Record {
+    let mut table = Table::default();
+    let [a1, a2, a3, a4] = [1, 2, 3, 4].map(|atom| table.number(Atom(atom)));
+    let p9_a2 = table.number(Says(9, a2));
+    let a3_and_a1 = table.number(And(a3, a1));
+    let a4_or_p9 = table.number(Or(a4, p9_a2));
+    let order = table.number(Implies(a3_and_a1, a4_or_p9));
+    let paper = table.number(Says(12, order));
+    let a1_and_a3 = table.number(And(a1, a3));
+    let p9_or_a4 = table.number(Or(p9_a2, a4));
+    let turned = table.number(Implies(a1_and_a3, p9_or_a4));
+    let goal = table.number(Says(12, turned));
+    let steps = [
+        SAYS_RIGHT,
+        SAYS_LEFT + paper,
+        AFFIRM,
+        IMPLIES_RIGHT,
+        AND_LEFT + a1_and_a3,
+        IMPLIES_LEFT + order,
+        AND_RIGHT,
+        INIT + a3,
+        INIT + a1,
+        OR_LEFT + a4_or_p9,
+        OR_RIGHT_SECOND,
+        INIT + a4,
+        OR_RIGHT_FIRST,
+        SAYS_RIGHT,
+        SAYS_LEFT + p9_a2,
+        AFFIRM,
+        INIT + a2,
+    ];
+    record(&table, &[paper], goal, &steps)
+}
+
+/// Atom 0, and so many formulas of which each is (A and A) for the one before it, A. The last is a
+/// statement, and and left takes one after the other apart.
+fn doubled(times: usize) -> Record {
+    let mut table = Table::default();
+    let mut formulas = vec![table.number(Atom(0))];
+    for last in 0..times {
+        formulas.push(table.number(And(formulas[last], formulas[last])));
+    }
+    let mut steps: Vec<u16> =
+        formulas[1..].iter().rev().map(|formula| AND_LEFT + formula).collect();
+    steps.push(INIT + formulas[0]);
+    record(&table, &[formulas[times]], formulas[0], &steps)
+}
+
+pub fn in_sentences() -> Section<Record> {
+    Section {
+        title: "The proof in sentences",
+        about: "Release officers read a proof aloud before they sign. Beside each record of this \
+                page that is granted stands its proof in sentences, but for the last one here.",
+        samples: vec![
+            sample(
+                "every-rule",
+                "Each of the twelve rules, over a paper of p7 and an order: the sentences have \
+                 every rule's name.",
+                every_rule(),
+                "granted 1 7",
+            ),
+            sample(
+                "other-way-round",
+                "The paper of p12 and what p12 is to say are the same thing the other way round. \
+                 No two operands are the same, so in the sentences one can see which of them \
+                 stands first.",
+                other_way_round(),
+                "granted 1 12",
+            ),
+            bare(
+                "doubled-40-times",
+                "The table has a0, and 40 formulas of which each is (A and A), A being the one \
+                 before it. The last of them is the statement, and 41 steps take it apart down \
+                 to a0. The record is granted; but the text of its proof would have more than \
+                 2^40 bytes, so the program that writes sentences says `refused 16 place 0`, and \
+                 no `doubled-40-times.sentences` stands here.",
+                doubled(40).bytes(),
+                "granted 0",
+            ),
+        ],
+    }
+}
