@@ -5,7 +5,7 @@ use super::figure1::premises;
 use super::formula::{Formula, Tree};
 use super::refusal::{refuse_if, Refusal};
 use super::sequent::{Hypotheses, Judgment, Sequent};
-use super::step::Step;
+use super::step::{Rule, Step};
 use super::table::Table;
 
 /// "Depth is at most 512."
@@ -13,15 +13,28 @@ const DEEPEST: usize = 512;
 
 /// The step words of a file, with the table that gives their numbers a meaning.
 pub struct Steps<'a> {
-    pub table: &'a Table,
-    pub words: &'a [u16],
+    table: &'a Table,
+    words: &'a [u16],
+    /// What was done so far: the steps whose rules fit, in file order.
+    pub done: Vec<Done<'a>>,
+}
+
+/// One step: a rule, the formula that it names, if any, and the goal below it.
+pub struct Done<'a> {
+    pub rule: Rule,
+    pub named: Option<&'a Formula>,
+    pub goal: Judgment<'a>,
 }
 
 impl<'a> Steps<'a> {
+    pub fn new(table: &'a Table, words: &'a [u16]) -> Steps<'a> {
+        Steps { table, words, done: vec![] }
+    }
+
     /// Checks a whole proof of a formula's truth that begins at word `at`: "the first step has
     /// depth 1". Gives the place after its last word.
     pub fn proof(
-        &self,
+        &mut self,
         hypotheses: &Hypotheses,
         formula: &'a Formula,
         at: usize,
@@ -32,7 +45,12 @@ impl<'a> Steps<'a> {
 
     /// Tests 9 to 14 in this order at the step, then the derivations of its premises, one deeper
     /// each. Gives the place after the last word used.
-    fn derivation(&self, sequent: &Sequent<'a>, depth: usize, at: usize) -> Result<usize, Refusal> {
+    fn derivation(
+        &mut self,
+        sequent: &Sequent<'a>,
+        depth: usize,
+        at: usize,
+    ) -> Result<usize, Refusal> {
         let refusal = |number: u8| Refusal { number, place: at };
         // Test 9: the steps end while this derivation is due.
         let place = self.words.len();
@@ -49,6 +67,7 @@ impl<'a> Steps<'a> {
         };
         // Tests 13 and 14: the rule fits.
         let premises = premises(step.rule, sequent, named).map_err(refusal)?;
+        self.done.push(Done { rule: step.rule, named, goal: sequent.goal });
 
         let mut next = at + 1;
         for premise in &premises {

@@ -26,7 +26,7 @@ pub fn check_exchange(file: &[u8]) -> Result<(), Refusal> {
     // Tests 9 to 14: "a proof of each statement of the second list from the first, in order, then
     // of each of the first from the second, one for every position"; "each proof begins at the word
     // after the last one".
-    let steps = Steps { table: &table, words: &words };
+    let mut steps = Steps::new(&table, &words);
     let mut at = 0;
     for (from, proved) in [(first, second), (second, first)] {
         let hypotheses = Hypotheses::of(from);

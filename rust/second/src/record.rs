@@ -1,6 +1,6 @@
 //! The record: sizes F, S, N and the goal's number; heads, seconds, statements, steps.
 
-use super::derivation::Steps;
+use super::derivation::{Done, Steps};
 use super::formula::{Formula, Principal};
 use super::layout::{lists, sizes, FORMULAS, MOST_STEPS, STATEMENTS};
 use super::refusal::{refuse_if, Refusal};
@@ -10,6 +10,15 @@ use std::collections::BTreeSet;
 
 /// Checks a record, for a lent list of `room` words. Granted: the signers, as they go into it.
 pub fn check_record(file: &[u8], room: usize) -> Result<Vec<u16>, Refusal> {
+    check_record_and(file, room, |_| Ok(()))
+}
+
+/// The same, with one test more, after the others, of the steps that were done.
+pub fn check_record_and(
+    file: &[u8],
+    room: usize,
+    last: impl FnOnce(&[Done]) -> Result<(), Refusal>,
+) -> Result<Vec<u16>, Refusal> {
     // Test 1.
     let [f, s, n, goal] = sizes(file)?;
     let [f, s, n] = [f, s, n].map(usize::from);
@@ -35,9 +44,10 @@ pub fn check_record(file: &[u8], room: usize) -> Result<Vec<u16>, Refusal> {
         .collect();
     refuse_if(room < signers.len(), 8, 0)?;
     // Tests 9 to 15.
-    let steps = Steps { table: &table, words: &words };
+    let mut steps = Steps::new(&table, &words);
     let end = steps.proof(&Hypotheses::of(&statements), goal, 0)?;
     steps.end(end)?;
+    last(&steps.done)?;
     // "Signers shall stand in rising principal number." (02) A set hands them out so.
     Ok(signers.into_iter().collect())
 }

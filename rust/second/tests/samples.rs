@@ -1,43 +1,9 @@
 //! The samples of 01, the errors that classes make, and the edges of each test.
 
+mod common;
+
+use common::*;
 use second::{check_exchange, check_record, Refusal};
-
-type Table<'a> = &'a [(u16, u16)];
-
-/// Table T of 01, and the table of sample K.
-const T: Table = &[(0, 0), (20487, 0), (20488, 0)];
-const AND: Table = &[(0, 0), (1, 0), (12288, 1)];
-
-// The code part of a step word.
-const AFFIRM: u16 = 4096;
-const IMPLIES_RIGHT: u16 = 2 * 4096;
-const IMPLIES_LEFT: u16 = 3 * 4096;
-const FALSE_LEFT: u16 = 4 * 4096;
-const AND_RIGHT: u16 = 5 * 4096;
-const AND_LEFT: u16 = 6 * 4096;
-const OR_FIRST: u16 = 7 * 4096;
-const OR_SECOND: u16 = 8 * 4096;
-const OR_LEFT: u16 = 9 * 4096;
-const SAYS_RIGHT: u16 = 10 * 4096;
-const SAYS_LEFT: u16 = 11 * 4096;
-
-fn bytes(parts: &[&[u16]]) -> Vec<u8> {
-    parts.concat().iter().flat_map(|word| word.to_le_bytes()).collect()
-}
-
-fn file(sizes: [usize; 4], table: Table, lists: &[&[u16]]) -> Vec<u8> {
-    let heads: Vec<u16> = table.iter().map(|entry| entry.0).collect();
-    let seconds: Vec<u16> = table.iter().map(|entry| entry.1).collect();
-    bytes(&[&sizes.map(|size| size as u16), &heads, &seconds, &lists.concat()])
-}
-
-fn record_file(table: Table, statements: &[u16], goal: u16, steps: &[u16]) -> Vec<u8> {
-    file([table.len(), statements.len(), steps.len(), goal.into()], table, &[statements, steps])
-}
-
-fn exchange_file(table: Table, first: &[u16], second: &[u16], steps: &[u16]) -> Vec<u8> {
-    file([table.len(), first.len(), second.len(), steps.len()], table, &[first, second, steps])
-}
 
 fn record(table: Table, statements: &[u16], goal: u16, steps: &[u16]) -> Result<Vec<u16>, Refusal> {
     check_record(&record_file(table, statements, goal, steps), 256)
