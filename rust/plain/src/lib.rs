@@ -1,16 +1,19 @@
 //! A plain fast checker of release records and exchange files, as one writes it for speed in safe
 //! Rust: words are read where they stand, a hypothesis is a mark at its formula's number, and
 //! little more memory is cleared than the file's sizes ask for. It makes all of 01's tests in 01's
-//! order and keeps nothing between calls. The proved checker is measured against it.
+//! order and 02's 16 after them, and keeps nothing between calls. The proved checker is measured
+//! against it.
 #![forbid(unsafe_code)]
 mod limits;
+mod sentences;
 mod signers;
 mod table;
 mod walk;
 mod words;
 
 use limits::{MOST_FORMULAS, MOST_STATEMENTS, MOST_STEPS};
-use walk::{with_marks, Walk};
+use sentences::Sentences;
+use walk::{with_marks, Follow, Nothing, Walk};
 use words::Words;
 
 /// "A refusal gives its number and a place"
@@ -36,6 +39,27 @@ fn sizes(file: &[u8]) -> Result<([usize; 4], Words<'_>), Refusal> {
 /// Checks a record. Granted, the signers stand at the start of the lent list, rising by number, and
 /// their count is given; refused, the list is as it was.
 pub fn check_record(file: &[u8], signers: &mut [u16]) -> Result<usize, Refusal> {
+    check_followed(file, signers, &mut Nothing)
+}
+
+/// Checks a record and writes its proof in sentences. Written, the signers stand at the start of
+/// the lent list and the text at the start of the lent bytes, and both counts are given; refused,
+/// 16 too, both are as they were.
+pub fn sentences(
+    file: &[u8],
+    signers: &mut [u16],
+    text: &mut [u8],
+) -> Result<(usize, usize), Refusal> {
+    let mut sentences = Sentences::new(text);
+    let count = check_followed(file, signers, &mut sentences)?;
+    Ok((count, sentences.written))
+}
+
+fn check_followed(
+    file: &[u8],
+    signers: &mut [u16],
+    follow: &mut impl Follow,
+) -> Result<usize, Refusal> {
     let ([formulas, count, steps, goal], rest) = sizes(file)?;
     if formulas == 0
         || formulas > MOST_FORMULAS
@@ -62,8 +86,9 @@ pub fn check_record(file: &[u8], signers: &mut [u16]) -> Result<usize, Refusal> 
             return refuse(8, 0);
         }
         let mut walk = Walk::new(heads, seconds, steps, held);
-        walk.prove(goal as u16)?;
+        walk.prove(goal as u16, follow)?;
         walk.end()?;
+        follow.end(heads, seconds)?;
         Ok(signers::collect(heads, statements, signers))
     })
 }
@@ -93,9 +118,9 @@ pub fn check_exchange(file: &[u8]) -> Result<(), Refusal> {
             return refuse(7, count + position);
         }
         let mut walk = Walk::new(heads, seconds, steps, held);
-        second.iter().try_for_each(|goal| walk.prove(goal))?;
+        second.iter().try_for_each(|goal| walk.prove(goal, &mut Nothing))?;
         walk.hold_instead(first, second);
-        first.iter().try_for_each(|goal| walk.prove(goal))?;
+        first.iter().try_for_each(|goal| walk.prove(goal, &mut Nothing))?;
         walk.end()
     })
 }

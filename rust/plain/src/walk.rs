@@ -8,13 +8,29 @@ use super::{refuse, Refusal};
 
 /// A truth of a formula, or its affirmation by a principal.
 #[derive(Clone, Copy, PartialEq, Eq)]
-struct Goal {
-    formula: u16,
-    by: u16,
+pub struct Goal {
+    pub formula: u16,
+    pub by: u16,
 }
 
 /// Stands for the principal of a truth: no principal has this number.
-const NOBODY: u16 = u16::MAX;
+pub const NOBODY: u16 = u16::MAX;
+
+/// What follows a walk: it is told each step that fits, and after test 15 it may make a test of its
+/// own.
+pub trait Follow {
+    #[inline(always)]
+    fn step(&mut self, _word: u16, _goal: Goal) {}
+
+    fn end(&mut self, _heads: Words, _seconds: Words) -> Result<(), Refusal> {
+        Ok(())
+    }
+}
+
+/// Follows a walk and does nothing.
+pub struct Nothing;
+
+impl Follow for Nothing {}
 
 fn truth(formula: u16) -> Goal {
     Goal { formula, by: NOBODY }
@@ -77,7 +93,7 @@ impl<'a> Walk<'a> {
     }
 
     /// Tests 9 to 14 for the steps of one proof. Afterwards the same formulas are held as before.
-    pub fn prove(&mut self, formula: u16) -> Result<(), Refusal> {
+    pub fn prove(&mut self, formula: u16, follow: &mut impl Follow) -> Result<(), Refusal> {
         let (mut goal, mut depth) = (truth(formula), 1);
         loop {
             let place = self.next;
@@ -85,10 +101,14 @@ impl<'a> Walk<'a> {
                 return refuse(9, place);
             };
             self.next += 1;
-            match self.step(word, goal, depth) {
+            let premise = match self.step(word, goal, depth) {
                 Err(number) => return refuse(number, place),
-                Ok(Some(premise)) => (goal, depth) = (premise, depth + 1),
-                Ok(None) => match self.resume() {
+                Ok(premise) => premise,
+            };
+            follow.step(word, goal);
+            match premise {
+                Some(premise) => (goal, depth) = (premise, depth + 1),
+                None => match self.resume() {
                     Some(open) => (goal, depth) = open,
                     None => return Ok(()),
                 },
