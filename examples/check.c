@@ -1,7 +1,7 @@
 /*
- * Checks the record or the exchange file that is named, and prints the line of document 01. The exit status is 0 for
- * granted and equal, 1 for refused, and 2 where there is no verdict, because the file cannot be read or the line not
- * written. At the top of the repository:
+ * Checks the record or the exchange file that is named, and prints the line of document 01; or prints a record's proof
+ * in sentences. The exit status is 0 for granted and equal, 1 for refused, and 2 where there is no verdict, because the
+ * file cannot be read or the line not written. At the top of the repository:
  *
  *     rt staticlib ffi
  *     cc -Iinclude examples/check.c target/staticlib/libffi.a -o target/check
@@ -70,11 +70,26 @@ static int print_exchange(uint64_t answer) {
     return 0;
 }
 
+/* The text, or the line of a refusal; 16 where these bytes are too few for it. */
+static int print_sentences(const uint8_t *file, size_t length) {
+    static uint8_t text[1048576];
+    uint16_t signers[WETHRYNDA_MOST_SIGNERS] = {0};
+    uint64_t written = 0;
+    uint64_t answer =
+        wethrynda_sentences(file, length, signers, WETHRYNDA_MOST_SIGNERS, text, sizeof text, &written);
+    if (!wethrynda_is_granted(answer)) {
+        return print_refused(answer);
+    }
+    fwrite(text, 1, (size_t)written, stdout);
+    return ferror(stdout) ? 2 : 0;
+}
+
 int main(int argc, char **argv) {
     int is_record = argc == 3 && strcmp(argv[1], "record") == 0;
     int is_exchange = argc == 3 && strcmp(argv[1], "exchange") == 0;
-    if (!is_record && !is_exchange) {
-        fprintf(stderr, "usage: check record FILE, or check exchange FILE\n");
+    int is_sentences = argc == 3 && strcmp(argv[1], "sentences") == 0;
+    if (!is_record && !is_exchange && !is_sentences) {
+        fprintf(stderr, "usage: check record FILE, check exchange FILE, or check sentences FILE\n");
         return 2;
     }
     size_t length;
@@ -87,8 +102,10 @@ int main(int argc, char **argv) {
         uint16_t signers[WETHRYNDA_MOST_SIGNERS] = {0};
         uint64_t answer = wethrynda_record(file, length, signers, WETHRYNDA_MOST_SIGNERS);
         status = print_record(answer, signers);
-    } else {
+    } else if (is_exchange) {
         status = print_exchange(wethrynda_exchange(file, length));
+    } else {
+        status = print_sentences(file, length);
     }
     free(file);
     return fflush(stdout) == 0 ? status : 2;

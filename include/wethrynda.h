@@ -1,12 +1,13 @@
 /*
- * Wethrynda: the checks of release records and of exchange files, for C. The library is target/staticlib/libffi.a, for
- * x86-64 Linux; `rt staticlib ffi` at the top of the repository makes it. Link it by its path, as examples/check.c is
- * linked: another library has the name `ffi` too.
+ * Wethrynda: the checks of release records and of exchange files, and the proof of a record in sentences, for C. The
+ * library is target/staticlib/libffi.a, for x86-64 Linux; `rt staticlib ffi` at the top of the repository makes it.
+ * Link it by its path, as examples/check.c is linked: another library has the name `ffi` too.
  *
- * wethrynda_check_record and wethrynda_check_exchange are written and proved in Rattle. Their contracts are in
- * crates/ffi/src/lib.rt and decide where a comment here is unclear. Nothing checks these declarations against them. A
- * caller in C should use the inline functions wethrynda_record and wethrynda_exchange, since in C an empty file or list
- * may be a null pointer, which the proved functions must not be given.
+ * wethrynda_check_record, wethrynda_check_exchange and wethrynda_write_sentences are written and proved in Rattle.
+ * Their contracts are in crates/ffi/src/lib.rt and decide where a comment here is unclear. Nothing checks these
+ * declarations against them. A caller in C should use the inline functions wethrynda_record, wethrynda_exchange and
+ * wethrynda_sentences, since in C an empty file, list or text may be a null pointer, which the proved functions must
+ * not be given.
  */
 #ifndef WETHRYNDA_H
 #define WETHRYNDA_H
@@ -78,7 +79,48 @@ static inline uint64_t wethrynda_exchange(const uint8_t *file, size_t file_lengt
     return wethrynda_check_exchange(file == NULL && file_length == 0 ? &no_bytes : file, file_length);
 }
 
-/* Of a record's answer only: whether the record is granted; else it is refused. */
+/*
+ * Checks the record in the bytes file[0] .. file[file_length - 1], any bytes of any number, writes its proof as text,
+ * and answers one number, which the functions below take apart as a record's. It makes every test itself and always
+ * answers: it allocates nothing, reads and writes no file, and keeps nothing from call to call.
+ *
+ * Granted: the record's signers stand in signers[0] .. signers[count - 1], as after wethrynda_check_record; the text
+ * stands in text[0] .. text[written[0] - 1], a line for each step, each ended by a line feed, with no null byte after
+ * it; and written[0] is how many bytes that is, where `written_length` is 1 or more. The words and the bytes after them
+ * are as they were, and so are written[1] and all that follow.
+ * Refused: nothing that is lent has changed, `written` neither. A list shorter than the number of signers is refusal 8.
+ * Fewer bytes than the whole text has are refusal 16, place 0, tested after all others. A short proof may have a text
+ * that is too long for any memory.
+ *
+ * What the caller sees to, since the function cannot test it:
+ * - No pointer is null, even where its length is 0. A pointer to any object will do there. `signers` is aligned as a
+ *   uint16_t is, and `written` as a uint64_t is.
+ * - The file has `file_length` bytes that may be read; the list, the text and the count, which are lent for the call,
+ *   have so many words, bytes and numbers that may be read and written. No two of the four overlap, and no other thread
+ *   changes any of them until the call is over. (Calls may run at the same time on lists and texts of their own.)
+ * - The thread has about 1 MB of stack left: a proof may be 512 steps deep, and a formula 4,096 operands.
+ */
+uint64_t wethrynda_write_sentences(const uint8_t *file, size_t file_length, uint16_t *signers, size_t signers_length,
+                                   uint8_t *text, size_t text_length, uint64_t *written, size_t written_length);
+
+/*
+ * The same, where a null pointer with length 0 is right too, as in wethrynda_record. The number of bytes goes into
+ * *written, which is not changed where the record is refused; `written` may be null where nobody wants the number.
+ */
+static inline uint64_t wethrynda_sentences(const uint8_t *file, size_t file_length, uint16_t *signers,
+                                           size_t signers_length, uint8_t *text, size_t text_length,
+                                           uint64_t *written) {
+    const uint8_t no_bytes = 0;
+    uint16_t no_words = 0;
+    uint8_t no_text = 0;
+    uint64_t unwanted = 0;
+    return wethrynda_write_sentences(file == NULL && file_length == 0 ? &no_bytes : file, file_length,
+                                     signers == NULL && signers_length == 0 ? &no_words : signers, signers_length,
+                                     text == NULL && text_length == 0 ? &no_text : text, text_length,
+                                     written == NULL ? &unwanted : written, 1);
+}
+
+/* Of a record's answer, or that of its sentences: whether the record is granted; else it is refused. */
 static inline bool wethrynda_is_granted(uint64_t answer) { return answer >> 32 == 0; }
 
 /* Of a granted record: how many signers it has. */
@@ -88,8 +130,8 @@ static inline uint32_t wethrynda_count(uint64_t answer) { return (uint32_t)(answ
 static inline bool wethrynda_is_equal(uint64_t answer) { return answer >> 32 == 0; }
 
 /*
- * Of a refused record or exchange file: the refusal's number, 1 to 15, which says why (samples/README.md has the list).
- * 0 if it is not refused.
+ * Of a refused record or exchange file: the refusal's number, 1 to 15, or of sentences 1 to 16, which says why
+ * (samples/README.md has the list). 0 if it is not refused.
  */
 static inline uint32_t wethrynda_number(uint64_t answer) { return (uint32_t)(answer >> 32); }
 

@@ -1,9 +1,10 @@
-//! The checks of release records and of exchange files, which are written and proved in Rattle, for
-//! Rust.
+//! The checks of release records and of exchange files, and the proof of a record in sentences,
+//! which are written and proved in Rattle, for Rust.
 //!
-//! The contracts of the functions behind [`check_record`] and [`check_exchange`] stand in
-//! `crates/ffi/src/lib.rt`; what a record and an exchange file are, and what each refusal means,
-//! stands in `crates/record/specs/` and `crates/exchange/specs/`.
+//! The contracts of the functions behind [`check_record`], [`check_exchange`] and
+//! [`write_sentences`] stand in `crates/ffi/src/lib.rt`; what a record and an exchange file are,
+//! and what each refusal means, stands in `crates/record/specs/` and `crates/exchange/specs/`, and
+//! what the text of a proof is in `crates/sentences/specs/`.
 
 /// What the check of a record answers.
 #[derive(Clone, Copy, Debug, PartialEq, Eq)]
@@ -29,6 +30,17 @@ pub enum Exchange {
     Refused { number: u8, place: usize },
 }
 
+/// What the writing of a record's proof in sentences answers.
+#[derive(Clone, Copy, Debug, PartialEq, Eq)]
+pub enum Sentences {
+    /// The record is granted, with so many signers, and its proof is written, in so many bytes.
+    Written { signers: usize, bytes: usize },
+    /// The record is refused, or granted and its text longer than what is lent, which is 16: the
+    /// number of the first reason that applies, from 1 to 16, and the place where it was found,
+    /// counted from 0.
+    Refused { number: u8, place: usize },
+}
+
 /// A list of so many words is long enough for the signers of every record.
 pub const MOST_SIGNERS: usize = 256;
 
@@ -42,10 +54,20 @@ extern "C" {
         signers_length: usize,
     ) -> u64;
     fn wethrynda_check_exchange(file: *const u8, file_length: usize) -> u64;
+    fn wethrynda_write_sentences(
+        file: *const u8,
+        file_length: usize,
+        signers: *mut u16,
+        signers_length: usize,
+        text: *mut u8,
+        text_length: usize,
+        written: *mut u64,
+        written_length: usize,
+    ) -> u64;
 }
 
 /// The number and the place of a refusal, which is number × 2^32 + place. Every other answer is
-/// less than 2^32. The contracts bound them: number by 15, place by 16,384.
+/// less than 2^32. The contracts bound them: number by 16, place by 16,384.
 fn refusal(answer: u64) -> Option<(u8, usize)> {
     let (high, low) = (answer >> 32, answer & 0xffff_ffff);
     (high != 0).then_some((high as u8, low as usize))
@@ -82,5 +104,44 @@ pub fn check_exchange(file: &[u8]) -> Exchange {
     match refusal(unsafe { wethrynda_check_exchange(file.as_ptr(), file.len()) }) {
         Some((number, place)) => Exchange::Refused { number, place },
         None => Exchange::Equal,
+    }
+}
+
+/// Checks a record, any bytes of any length, and writes its proof as text: a line for each step,
+/// ended by a line feed.
+///
+/// Written, the signers stand at the start of the list that is lent, as after [`check_record`], and
+/// the text at the start of the bytes that are lent; the words and the bytes after them are as they
+/// were. Refused, no word and no byte has changed. Bytes that are fewer than the whole text are
+/// refusal 16, after all others. A short proof may have a text that is too long for any memory: a
+/// record of some 16,000 bytes can have one of more than 2^4000.
+///
+/// It needs more stack than the check, since a formula is written by a call within a call for each
+/// operand, up to 4,096 of them; a thread has enough by default.
+pub fn write_sentences(file: &[u8], signers: &mut [u16], text: &mut [u8]) -> Sentences {
+    let (list, room) = (signers.as_mut_ptr(), signers.len());
+    let (bytes, length) = (text.as_mut_ptr(), text.len());
+    let mut written = 0;
+    // SAFETY: the three pointers with lengths are those of slices, so they are not null and are
+    // aligned, even where the slice is empty, and the lengths are theirs; the fourth is that of one
+    // number. No other reference reaches the list, the text or the number while they are lent, so
+    // no two of the four overlap. The function's contract asks nothing more, and it is proved to
+    // stay inside what is lent.
+    let answer = unsafe {
+        wethrynda_write_sentences(
+            file.as_ptr(),
+            file.len(),
+            list,
+            room,
+            bytes,
+            length,
+            &mut written,
+            1,
+        )
+    };
+    match refusal(answer) {
+        Some((number, place)) => Sentences::Refused { number, place },
+        // a count of signers, 256 at most; and no more bytes are written than are lent
+        None => Sentences::Written { signers: answer as usize, bytes: written as usize },
     }
 }

@@ -66,10 +66,29 @@ fn samples_of_both_kinds() {
 }
 
 #[test]
+fn sentences_of_every_record() {
+    let program = example("check_sentences");
+    for sample in samples(".record") {
+        let run = check(&program, "sentences", &top().join("samples").join(&sample.name));
+        let said = String::from_utf8(run.stdout).expect("text");
+        let (text, status) = match (sample.text(), sample.answer) {
+            (Some(text), _) => (text, 0),
+            // granted, and too long for what the program lends
+            (None, Answer::Granted(_)) => ("refused 16 place 0\n".to_string(), 1),
+            (None, Answer::Refused(number, place)) => {
+                (format!("refused {number} place {place}\n"), 1)
+            }
+            (None, Answer::Equal) => panic!("{} is no record", sample.name),
+        };
+        assert_eq!((said, run.status.code()), (text, Some(status)), "{}", sample.name);
+    }
+}
+
+#[test]
 fn no_verdict() {
     let program = example("check_nothing");
     let folder = top().join("samples");
-    for kind in ["record", "exchange"] {
+    for kind in ["record", "exchange", "sentences"] {
         for unreadable in [folder.join("none"), folder.clone()] {
             let about = format!("{kind} {}", unreadable.display());
             assert_no_verdict(check(&program, kind, &unreadable), &about);
@@ -83,7 +102,11 @@ fn no_verdict() {
 
 #[test]
 fn null_pointers() {
-    let wrap = ["-Wl,--wrap=wethrynda_check_record", "-Wl,--wrap=wethrynda_check_exchange"];
+    let wrap = [
+        "-Wl,--wrap=wethrynda_check_record",
+        "-Wl,--wrap=wethrynda_check_exchange",
+        "-Wl,--wrap=wethrynda_write_sentences",
+    ];
     let program = compiled("null", "rust/wethrynda/tests/null.c", &wrap);
     let run = Command::new(program).output().expect("null.c's program starts");
     assert!(run.status.success(), "{}", String::from_utf8_lossy(&run.stdout));

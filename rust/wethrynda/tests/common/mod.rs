@@ -33,6 +33,15 @@ pub struct Sample {
     pub answer: Answer,
 }
 
+impl Sample {
+    /// The proof in sentences, which is stored beside a record that is granted and whose text is
+    /// not too long.
+    pub fn text(&self) -> Option<String> {
+        let path = top().join("samples").join(&self.name).with_extension("sentences");
+        fs::read_to_string(path).ok().filter(|_| matches!(self.answer, Answer::Granted(_)))
+    }
+}
+
 /// All samples whose names end so, in the order in which their lines are stored.
 pub fn samples(ending: &str) -> Vec<Sample> {
     let lines =
