@@ -1,6 +1,7 @@
 //! Both checkers on one file: the answer, and every word of the lent list.
 use crate::given::Given;
 use crate::parts::Kind;
+use std::fmt::Debug;
 use wethrynda::{Exchange, Verdict};
 
 /// What a checker says of a file.
@@ -79,16 +80,25 @@ pub fn kinds(given: &Given) -> impl Iterator<Item = Kind> {
 #[derive(Clone, Debug)]
 pub struct Disagreement {
     pub given: Given,
-    pub kind: Kind,
-    pub proved: Answer,
-    pub second: Answer,
+    /// Which call it was given to, and what was lent.
+    pub call: String,
+    /// What either of them says.
+    pub proved: String,
+    pub second: String,
+}
+
+impl Disagreement {
+    pub fn new<T: Debug>(given: &Given, call: String, [proved, second]: [T; 2]) -> Box<Self> {
+        let [proved, second] = [proved, second].map(|answer| format!("{answer:?}"));
+        Box::new(Disagreement { given: given.clone(), call, proved, second })
+    }
 }
 
 impl std::fmt::Display for Disagreement {
     fn fmt(&self, f: &mut std::fmt::Formatter<'_>) -> std::fmt::Result {
-        let Disagreement { given: Given { family, file, room, .. }, kind, proved, second } = self;
-        writeln!(f, "the checkers disagree, as {kind:?}, {room} words lent, family {family}")?;
-        writeln!(f, "  proved: {proved:?}\n  second: {second:?}")?;
+        let Disagreement { given: Given { family, file, .. }, call, proved, second } = self;
+        writeln!(f, "the checkers disagree, {call}, family {family}")?;
+        writeln!(f, "  proved: {proved}\n  second: {second}")?;
         let hex: String = file.iter().map(|byte| format!("{byte:02x}")).collect();
         write!(f, "  file, {} bytes: {hex}", file.len())
     }
@@ -103,7 +113,8 @@ pub fn compared(given: &Given) -> Result<Vec<(Kind, Answer)>, Box<Disagreement>>
             if proved == second {
                 Ok((kind, proved))
             } else {
-                Err(Box::new(Disagreement { given: given.clone(), kind, proved, second }))
+                let call = format!("as {kind:?}, {} words lent", given.room);
+                Err(Disagreement::new(given, call, [proved, second]))
             }
         })
         .collect()

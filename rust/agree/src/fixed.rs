@@ -1,5 +1,5 @@
-//! The fixed set of the tests: small exhaustive pieces, a run of seeded files, larger exhaustive
-//! pieces, files with crowded tables, and the largest files.
+//! The fixed set of the tests: small exhaustive pieces, files with doubled formulas, a run of
+//! seeded files, larger exhaustive pieces, files with crowded tables, and the largest files.
 use crate::crowded::{crowded, REPEATS, SIZES};
 use crate::given::{given, Given};
 use crate::largest::largest;
@@ -9,12 +9,17 @@ use crate::{exchanges, records};
 use builder::layout::bytes;
 use builder::random::Random;
 use builder::samples::{A, K, T};
-use builder::steps::{part, IMPLIES_RIGHT, INIT};
+use builder::steps::{part, AND_LEFT, IMPLIES_RIGHT, INIT, OR_LEFT};
 use builder::table::Entry::{self, And, Atom, False, Implies, Or, Says};
 
 /// How many seeded files the set has.
 pub const SEEDED: u64 = 300_000;
 pub const SEED: u64 = 2006;
+
+/// How often a formula of the set is doubled: the length of its text passes what the program lends
+/// between 16 and 17 times, and the numbers of 32, 64 and 128 bits.
+const DOUBLED: [u16; 20] =
+    [1, 2, 3, 8, 15, 16, 17, 18, 28, 29, 31, 32, 33, 60, 61, 63, 64, 65, 128, 4000];
 
 /// How many files with crowded tables the set has, before the largest, which are its last.
 pub const CROWDED: u64 = 24;
@@ -42,6 +47,7 @@ impl Fixed {
         }
         pieces.extend(all_short_lists());
         pieces.push(all_signed());
+        pieces.push(Piece { count: 6 * DOUBLED.len() as u64, make: Box::new(doubled_files) });
         pieces.push(Piece { count: SEEDED, make: Box::new(|number| given(SEED, number)) });
         for (words, kind) in [(&A[..], Kind::Record), (&K, Kind::Exchange)] {
             pieces.extend((0..words.len()).map(|at| any_word(words, kind, at)));
@@ -220,6 +226,26 @@ fn all_signed() -> Piece {
         Given { room, to_both: false, ..fixed(Kind::Record, parts.bytes()) }
     };
     Piece { count: 2 * 256, make: Box::new(make) }
+}
+
+/// Records with formulas over themselves, (A and A) and so on, so that a text soon is longer than
+/// any memory: such a formula stands in the goal, or it is named, or it is held and no more.
+fn doubled_files(number: u64) -> Given {
+    let times = DOUBLED[number as usize / 6];
+    let mut table = vec![Atom(0)];
+    for last in 0..times {
+        table.push(if number & 1 == 0 { And(last, last) } else { Or(last, last) });
+    }
+    table.push(Implies(times, 0));
+    let table: Vec<(u16, u16)> = table.into_iter().map(Entry::words).collect();
+    let (goal, steps) = match (number / 2 % 3, number & 1) {
+        (0, _) => (times + 1, vec![IMPLIES_RIGHT, INIT]),
+        (1, 0) => (0, vec![AND_LEFT + times, INIT]),
+        (1, _) => (0, vec![OR_LEFT + times, INIT, INIT]),
+        _ => (0, vec![INIT]),
+    };
+    let parts = Parts::record(&table, vec![0, times], goal, steps);
+    Given { to_both: false, ..fixed(Kind::Record, parts.bytes()) }
 }
 
 /// Each kind of file and size of a table, with each way to repeat.

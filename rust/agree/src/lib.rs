@@ -1,6 +1,6 @@
 //! Generated files, on which the proved checker (`wethrynda`) and the second checker (`second`)
-//! have to agree: answer, number, place, signers in their order; and every word of the proved one's
-//! lent list is looked at.
+//! have to agree: answer, number, place, signers in their order, the text of a proof; and every
+//! word and byte that the proved one was lent is looked at.
 //!
 //! - `random_table`, `identity`, `parts`: random formulas, their proofs from themselves, a file's
 //!   parts. The package `builder` has what they are made of.
@@ -9,7 +9,7 @@
 //! - `crowded`: tables made against the proved checker's test 5.
 //! - `misses`, `raw`, `noise`: near misses and noise.
 //! - `given`: which file a seed and a number make; `fixed`: the fixed set of the tests.
-//! - `compare`, `tally`, `run`: the comparison, the counts, the threads.
+//! - `compare`, `texts`, `tally`, `run`: the comparison, that of texts, the counts, the threads.
 #![forbid(unsafe_code)]
 
 pub mod compare;
@@ -30,3 +30,4 @@ pub mod records;
 pub mod run;
 pub mod slips;
 pub mod tally;
+pub mod texts;

@@ -3,6 +3,7 @@
 use crate::compare::{compared, Disagreement};
 use crate::given::Given;
 use crate::tally::Tally;
+use crate::texts;
 use std::sync::atomic::{AtomicU64, Ordering::SeqCst};
 use std::sync::Mutex;
 use std::thread;
@@ -33,8 +34,13 @@ pub fn run(
                     return tally;
                 }
                 let given = make(number);
-                match compared(&given) {
-                    Ok(answers) => tally.count(&given, &answers),
+                let both = compared(&given)
+                    .and_then(|answers| Ok((texts::compared(&given, &answers)?, answers)));
+                match both {
+                    Ok((texts, answers)) => {
+                        tally.count(&given, &answers);
+                        tally.texts.add(&texts);
+                    }
                     Err(disagreement) => {
                         end.fetch_min(number, SeqCst);
                         let mut first = first.lock().expect("no thread has failed");

@@ -2,6 +2,7 @@
 use crate::compare::Answer;
 use crate::given::{Given, FAMILIES};
 use crate::parts::Kind;
+use crate::texts::{Counts, TOO_LONG};
 use builder::steps::{code, RULES};
 use std::fmt;
 
@@ -19,6 +20,8 @@ pub struct Tally {
     pub exchanges: [u64; 16],
     /// Steps by code in files that were granted or equal.
     pub rules: [u64; 12],
+    /// Calls that write sentences.
+    pub texts: Counts,
 }
 
 impl Tally {
@@ -58,6 +61,7 @@ impl Tally {
         pairs(&mut self.records, &other.records);
         pairs(&mut self.exchanges, &other.exchanges);
         pairs(&mut self.rules, &other.rules);
+        self.texts.add(&other.texts);
     }
 
     /// What should have occurred and never did.
@@ -76,6 +80,10 @@ impl Tally {
             if number != 6 && number != 8 {
                 expect(self.exchanges[number], format!("refusal {number} of an exchange file"));
             }
+        }
+        // only the fixed set has texts that are too long
+        for (what, count) in self.texts.counts().filter(|(what, _)| *what != TOO_LONG) {
+            expect(count, format!("sentences, {what}"));
         }
         for (code, name) in RULES.iter().enumerate() {
             expect(
@@ -115,6 +123,10 @@ impl fmt::Display for Tally {
                 format!("refused {number}"),
                 self.records[number]
             )?;
+        }
+        writeln!(f, "\n{:<28} {:>12}", "sentences", "calls")?;
+        for (what, count) in self.texts.counts() {
+            writeln!(f, "{what:<28} {count:>12}")?;
         }
         writeln!(f, "\n{:<28} {:>12}", "rule, granted and equal", "steps")?;
         for (code, name) in RULES.iter().enumerate() {

@@ -4,6 +4,7 @@ use agree::fixed::{Fixed, CROWDED, FEW, LARGEST, SEED};
 use agree::given::given;
 use agree::parts::Kind;
 use agree::run::{run, STACK};
+use agree::texts::TOO_LONG;
 use std::path::Path;
 use std::{fs, thread};
 
@@ -36,6 +37,8 @@ fn both_checkers_agree_on_the_fixed_set() {
             println!("{tally}");
             assert_eq!(tally.files, fixed.count());
             assert_eq!(tally.missing(), Vec::<String>::new(), "never occurred");
+            let too_long = tally.texts.counts().find(|(what, _)| *what == TOO_LONG);
+            assert!(too_long.is_some_and(|(_, count)| count > 0), "no text was too long");
         }
     }
 }
