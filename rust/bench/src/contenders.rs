@@ -2,9 +2,10 @@
 
 use super::files::File;
 use super::measure::Contender;
+use super::texts::LENT as BYTES_LENT;
 use std::fmt::Debug;
 use std::hint::black_box;
-use wethrynda::{Exchange, Verdict, MOST_SIGNERS};
+use wethrynda::{Exchange, Sentences, Verdict, MOST_SIGNERS};
 
 /// The list that is lent is not cleared between calls.
 pub fn proved(file: &File) -> Contender<'_> {
@@ -31,6 +32,28 @@ pub fn second(file: &File) -> Contender<'_> {
     } else {
         repeat(|| second::check_exchange(black_box(&file.bytes)))
     }
+}
+
+/// The sentences of a record. The bytes that are lent are not cleared between calls either.
+pub fn proved_text(file: &File) -> Contender<'_> {
+    let (mut lent, mut text) = ([0; MOST_SIGNERS], vec![0; BYTES_LENT]);
+    repeat(move || wethrynda::write_sentences(black_box(&file.bytes), &mut lent, &mut text))
+}
+
+pub fn plain_text(file: &File) -> Contender<'_> {
+    let (mut lent, mut text) = ([0; MOST_SIGNERS], vec![0; BYTES_LENT]);
+    repeat(move || plain::sentences(black_box(&file.bytes), &mut lent, &mut text))
+}
+
+pub fn second_text(file: &File) -> Contender<'_> {
+    let (mut lent, mut text) = ([0; MOST_SIGNERS], vec![0; BYTES_LENT]);
+    repeat(move || second::sentences(black_box(&file.bytes), &mut lent, &mut text))
+}
+
+/// One pass that sums so many bytes: what reading the text costs.
+pub fn byte_sum_of(length: usize) -> Contender<'static> {
+    let text = vec![b'a'; length];
+    repeat(move || black_box(&text).iter().map(|&byte| byte as u64).sum::<u64>())
 }
 
 /// One pass that sums the file's bytes: what reading the file costs.
@@ -97,4 +120,22 @@ fn assert_same<T: Debug + PartialEq>(name: &str, answers: [T; 3], right: T) {
     for (answer, by) in answers.iter().zip(["proved", "plain", "second"]) {
         assert_eq!(*answer, right, "{name}, {by}");
     }
+}
+
+/// All three write the same text, whose length is given, after the same signers; or all three
+/// refuse it as too long, and what is lent is as it was.
+pub fn assert_texts(name: &str, file: &File) -> Option<usize> {
+    let [mut by_proved, mut by_plain, mut by_second] =
+        [0; 3].map(|_| ([LENT; MOST_SIGNERS], vec![0xff; BYTES_LENT]));
+    let proved = match wethrynda::write_sentences(&file.bytes, &mut by_proved.0, &mut by_proved.1) {
+        Sentences::Written { signers, bytes } => Ok((signers, bytes)),
+        Sentences::Refused { number, place } => Err((number, place)),
+    };
+    let plain = plain::sentences(&file.bytes, &mut by_plain.0, &mut by_plain.1);
+    let plain = plain.map_err(|refusal| (refusal.number, refusal.place));
+    let second = second::sentences(&file.bytes, &mut by_second.0, &mut by_second.1);
+    let second = second.map_err(|refusal| (refusal.number, refusal.place));
+    assert_same(name, [proved, plain, second], second.or(Err((16, 0))));
+    assert!(by_proved == by_second && by_plain == by_second, "{name}, what is lent");
+    second.ok().map(|(_, bytes)| bytes)
 }

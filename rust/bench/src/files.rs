@@ -4,12 +4,14 @@ mod build;
 mod provable_table;
 mod prover;
 mod refused;
+mod texts;
 
 use builder::layout::bytes;
 use builder::samples::{A, K};
 
 pub use build::{crowded_exchange, crowded_record, deep_exchange, deep_record, exchange, record};
 pub use refused::{with_wrong_entry, with_wrong_step};
+pub use texts::{doubled_record, doubled_tree, many_lines, typical_record};
 
 /// A file of one of the two kinds.
 pub struct File {

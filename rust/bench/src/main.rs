@@ -6,6 +6,7 @@ mod contenders;
 mod files;
 mod measure;
 mod rows;
+mod texts;
 
 use contenders::{assert_answers, byte_sum, plain, proved, second};
 use measure::measure;
@@ -13,7 +14,7 @@ use rows::{rows, Row};
 use std::io::{stderr, IsTerminal};
 use std::time::Duration;
 
-/// How long each row of either table is measured.
+/// How long each row of a table is measured.
 const ROW: Duration = Duration::from_millis(900);
 
 /// A number with three figures or more.
@@ -50,7 +51,7 @@ fn growth(row: &Row) -> Option<String> {
 }
 
 /// Prints a line for each row that has one; on a terminal a count shows which is being measured.
-fn print_lines(rows: &[Row], line: impl Fn(&Row) -> Option<String>) {
+fn print_lines<T>(rows: &[T], line: impl Fn(&T) -> Option<String>) {
     let shown = stderr().is_terminal();
     for (i, row) in rows.iter().enumerate() {
         if shown {
@@ -65,7 +66,7 @@ fn print_lines(rows: &[Row], line: impl Fn(&Row) -> Option<String>) {
 }
 
 fn main() {
-    let rows = rows();
+    let (rows, texts) = (rows(), texts::texts());
     for row in &rows {
         let files = std::iter::once(&row.full).chain(&row.half);
         files.for_each(|file| assert_answers(row.name, file));
@@ -79,4 +80,10 @@ fn main() {
     println!("| file | bytes | time, proved | time, plain |");
     println!("|---|---:|---:|---:|");
     print_lines(&rows, growth);
+    println!("\nA record's proof in sentences; the bytes are those of the text:\n");
+    println!(
+        "| text | bytes | proved, ns | proved / plain | second / proved | proved / sum of bytes |"
+    );
+    println!("|---|---:|---:|---:|---:|---:|");
+    print_lines(&texts, |text| Some(texts::line(text)));
 }

@@ -1,0 +1,42 @@
+//! The table of sentences: a record's proof written as text, by the three checkers.
+
+use super::contenders::{assert_texts, byte_sum_of, plain_text, proved_text, second_text};
+use super::files::{self, File};
+use super::measure::measure;
+use super::{figures, whole, ROW};
+
+/// A record, and the length of its proof's text; none where it is too long to be lent.
+pub struct Text {
+    name: &'static str,
+    file: File,
+    length: Option<usize>,
+}
+
+/// So many bytes the program lends.
+pub const LENT: usize = 1 << 20;
+
+/// Each is first seen to give the same text, or to be refused by all three.
+pub fn texts() -> Vec<Text> {
+    let text = |name, file| Text { name, length: assert_texts(name, &file), file };
+    vec![
+        text("small: record A of 01", files::record_a()),
+        text("typical: record, F 200, S 20, N 300", files::typical_record()),
+        text("long lines: record, F 13, S 1, N 8,191", files::doubled_tree()),
+        text("many lines: record, F 256, S 32, N 12,288", files::many_lines()),
+        text("refused 16: record, F 41, S 1, N 41", files::doubled_record()),
+    ]
+}
+
+pub fn line(text: &Text) -> String {
+    let file = &text.file;
+    let length = text.length.unwrap_or(0);
+    let contenders =
+        vec![proved_text(file), plain_text(file), second_text(file), byte_sum_of(length)];
+    let times = measure(contenders, ROW);
+    let mut ratios = [times[0] / times[1], times[2] / times[0], times[0] / times[3]].map(figures);
+    if length == 0 {
+        ratios[2] = "-".to_string();
+    }
+    let [bytes, time] = [length, times[0] as usize].map(whole);
+    format!("| {} | {bytes} | {time} | {} |", text.name, ratios.join(" | "))
+}
