@@ -2,3 +2,4 @@
 pub mod Refusals
 pub mod Tells
 pub mod ExchangeTells
+pub mod SentencesTells

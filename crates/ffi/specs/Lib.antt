@@ -2,3 +2,4 @@
 pub mod RefusalCode
 pub mod Code
 pub mod ExchangeCode
+pub mod SentencesCode

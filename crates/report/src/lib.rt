@@ -1,4 +1,5 @@
-// A file's check and the line of its answer: all that a program does but reading and writing.
+// A file's check and the line of its answer, or a record's proof in sentences: all that a program does but reading and
+// writing.
 ghost use Prim.Native.Nat.{_≤_};
 ghost use mathlib.Core.Path.{_≡_};
 ghost use lib.ListN.{length, replicate, take};
@@ -7,11 +8,15 @@ ghost use Rattle.line.specs.ExchangeLine.{exchangeLine};
 ghost use Rattle.line.specs.Line.{lineAfter, lineCount};
 ghost use Rattle.line.specs.Printed.{printedLine};
 ghost use Rattle.line.specs.RecordLine.{mostLine};
+ghost use Rattle.sentences.specs.Printed.{mostText, printedText};
 use basics::limits::MOST_STATEMENTS;
 use exchange_check::check::check_exchange;
 use line_write::exchange_line::write_exchange_line;
 use line_write::record_line::write_record_line;
+use record::verdict::RecordVerdict;
 use record_check::check::check_record;
+use sentences::verdict::SentencesVerdict;
+use sentences_write::write::write_sentences;
 
 // Every line of a record's answer fits into so many bytes: a count of three digits, and 256 signers of five, each after
 // a blank.
@@ -22,6 +27,16 @@ pub fn line_buffer() -> [u8; MOST_LINE]
     ensures { λ r. ⌜ r ≡ replicate mostLine 0 ⌝ }
 {
     [0; MOST_LINE]
+}
+
+// The text of a proof in sentences has so many bytes: 1 MiB.
+const MOST_TEXT: usize = 1048576;
+
+// Bytes for it, all 0; they have room for a refusal's line too (`WholeText`).
+pub fn text_buffer() -> [u8; MOST_TEXT]
+    ensures { λ r. ⌜ r ≡ replicate mostText 0 ⌝ }
+{
+    [0; MOST_TEXT]
 }
 
 // Checks a record, lending a list of 256 words, and writes the line of the answer as `write_record_line` does.
@@ -43,4 +58,20 @@ pub fn exchange_line(file: &[u8], line: &mut [u8]) -> usize
 {
     let verdict = check_exchange(file);
     write_exchange_line(verdict, line)
+}
+
+// Writes a record's proof in sentences, lending a list of 256 words, or the line of a refusal as `write_record_line`
+// does.
+pub fn sentences_text(file: &[u8], text: &mut [u8]) -> usize
+    ensures { λ r. ⌜ r ≡ lineCount (now (text .entry)) (printedText (now (file .entry)) (length (now (text .entry)))) ⌝ }
+    ensures { λ _. ⌜ now (text .exit) ≡ lineAfter (now (text .entry)) (printedText (now (file .entry)) (length (now (text .entry)))) ⌝ }
+    ensures { λ r. ⌜ (r ≤ length (now (text .exit))) × (r ≡ length (take r (now (text .exit)))) ⌝ }
+{
+    let mut signers = [0u16; MOST_STATEMENTS];
+    match write_sentences(file, &mut signers, text) {
+        SentencesVerdict::Written { signers: _, bytes } => bytes,
+        SentencesVerdict::Refused { number, place } => {
+            write_record_line(RecordVerdict::Refused { number, place }, &signers, text)
+        }
+    }
 }
