@@ -10,7 +10,7 @@ ghost use Rattle.text.specs.Fill.{placeAfter};
 ghost use Rattle.table.specs.Tests.{entries};
 ghost use Rattle.table.specs.Spelled.{spell};
 ghost use Rattle.sentences.specs.Formula.{propositionText, principalText};
-ghost use Rattle.sentences_write.specs.Operand.{operandText, pairText, inBrackets};
+ghost use Rattle.sentences_write.specs.Operand.{operandText, leftText, wordText, rightText};
 use table::entry::Atom;
 use table::entry::Entry;
 use table::entry::Formula;
@@ -56,48 +56,65 @@ fn fill_operand(
     fill(text, at, b"false")
 }
 
-// Two operands of entry n in round brackets, with their kind's word in the middle.
-fn fill_pair(
+// What stands before the word of a compound entry n: its first operand, or the principal.
+fn fill_left(
     heads: &[u16],
     seconds: &[u16],
     n: u16,
-    a: Formula,
-    word: &[u8],
-    b: Formula,
+    entry: Entry,
     text: &mut [u8],
     at: usize,
 ) -> usize
-    ensures { λ _. ⌜ now (text .exit) ≡ writtenAt (now (text .entry)) at (pairText (entries (now (heads .entry)) (now (seconds .entry))) n (a .0) (now (word .entry)) (b .0)) ⌝ }
-    ensures { λ r. ⌜ r ≡ placeAfter (now (text .entry)) at (pairText (entries (now (heads .entry)) (now (seconds .entry))) n (a .0) (now (word .entry)) (b .0)) ⌝ }
+    ensures { λ _. ⌜ now (text .exit) ≡ writtenAt (now (text .entry)) at (leftText (entries (now (heads .entry)) (now (seconds .entry))) n entry) ⌝ }
+    ensures { λ r. ⌜ r ≡ placeAfter (now (text .entry)) at (leftText (entries (now (heads .entry)) (now (seconds .entry))) n entry) ⌝ }
 {
-    let mut end = fill(text, at, b"(");
-    end = fill_operand(heads, seconds, n, a, text, end);
-    end = fill(text, end, word);
-    end = fill_operand(heads, seconds, n, b, text, end);
-    fill(text, end, b")")
+    match entry {
+        Entry::Implies(a, _) => fill_operand(heads, seconds, n, a, text, at),
+        Entry::And(a, _) => fill_operand(heads, seconds, n, a, text, at),
+        Entry::Or(a, _) => fill_operand(heads, seconds, n, a, text, at),
+        Entry::Says(k, _) => fill_principal(k, text, at),
+        _ => at,
+    }
 }
 
-// "(p7 says a0)"
-fn fill_says(
+// "its kind's word (implies, and, or, says) in the middle"
+fn fill_word(entry: Entry, text: &mut [u8], at: usize) -> usize
+    ensures { λ _. ⌜ now (text .exit) ≡ writtenAt (now (text .entry)) at (wordText entry) ⌝ }
+    ensures { λ r. ⌜ r ≡ placeAfter (now (text .entry)) at (wordText entry) ⌝ }
+{
+    match entry {
+        Entry::Implies(_, _) => fill(text, at, b" implies "),
+        Entry::And(_, _) => fill(text, at, b" and "),
+        Entry::Or(_, _) => fill(text, at, b" or "),
+        Entry::Says(_, _) => fill(text, at, b" says "),
+        _ => at,
+    }
+}
+
+// What stands after the word of a compound entry n.
+fn fill_right(
     heads: &[u16],
     seconds: &[u16],
     n: u16,
-    k: Principal,
-    a: Formula,
+    entry: Entry,
     text: &mut [u8],
     at: usize,
 ) -> usize
-    ensures { λ _. ⌜ now (text .exit) ≡ writtenAt (now (text .entry)) at (inBrackets (principalText (k .0)) (ascii " says ") (operandText (entries (now (heads .entry)) (now (seconds .entry))) n (a .0))) ⌝ }
-    ensures { λ r. ⌜ r ≡ placeAfter (now (text .entry)) at (inBrackets (principalText (k .0)) (ascii " says ") (operandText (entries (now (heads .entry)) (now (seconds .entry))) n (a .0))) ⌝ }
+    ensures { λ _. ⌜ now (text .exit) ≡ writtenAt (now (text .entry)) at (rightText (entries (now (heads .entry)) (now (seconds .entry))) n entry) ⌝ }
+    ensures { λ r. ⌜ r ≡ placeAfter (now (text .entry)) at (rightText (entries (now (heads .entry)) (now (seconds .entry))) n entry) ⌝ }
 {
-    let mut end = fill(text, at, b"(");
-    end = fill_principal(k, text, end);
-    end = fill(text, end, b" says ");
-    end = fill_operand(heads, seconds, n, a, text, end);
-    fill(text, end, b")")
+    match entry {
+        Entry::Implies(_, b) => fill_operand(heads, seconds, n, b, text, at),
+        Entry::And(_, b) => fill_operand(heads, seconds, n, b, text, at),
+        Entry::Or(_, b) => fill_operand(heads, seconds, n, b, text, at),
+        Entry::Says(_, b) => fill_operand(heads, seconds, n, b, text, at),
+        _ => at,
+    }
 }
 
 // Writes the text of a number's formula from the place `at` on, as far as there is room, and gives the place after it.
+// All compound kinds share one arm, so that the functions above are compiled into this one and a level of the recursion
+// is one small frame.
 pub(crate) fn fill_formula(
     heads: &[u16],
     seconds: &[u16],
@@ -111,13 +128,17 @@ pub(crate) fn fill_formula(
     if at >= text.len() {
         return at;
     }
-    match entry_at(heads, seconds, n) {
+    let entry = entry_at(heads, seconds, n);
+    match entry {
         Entry::Atom(a) => fill_atom(a, text, at),
-        Entry::Implies(a, b) => fill_pair(heads, seconds, n, a, b" implies ", b, text, at),
-        Entry::And(a, b) => fill_pair(heads, seconds, n, a, b" and ", b, text, at),
-        Entry::Or(a, b) => fill_pair(heads, seconds, n, a, b" or ", b, text, at),
-        Entry::Says(k, a) => fill_says(heads, seconds, n, k, a, text, at),
         Entry::False => fill(text, at, b"false"),
         Entry::IllFormed => fill(text, at, b"false"),
+        _ => {
+            let mut end = fill(text, at, b"(");
+            end = fill_left(heads, seconds, n, entry, text, end);
+            end = fill_word(entry, text, end);
+            end = fill_right(heads, seconds, n, entry, text, end);
+            fill(text, end, b")")
+        }
     }
 }
