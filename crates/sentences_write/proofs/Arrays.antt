@@ -35,9 +35,9 @@ use Rattle.goals.proofs.Trace.{goals-written}
 use Rattle.sentences.specs.declared.verdict.SentencesVerdict.{SentencesVerdict}
 use Rattle.sentences.specs.declared.verdict.SentencesVerdict.the-variants.{Written, Refused}
 use Rattle.sentences.specs.Sentences.{sentencesFrom}
-use Rattle.sentences_write.specs.Length.{tooLong, capped}
+use Rattle.formula_write.specs.Length.{tooLong, capped}
 use Rattle.sentences_write.specs.Arrays.{arraysText, arraysAnswer}
-use Rattle.sentences_write.proofs.Lengths.{capped-below}
+use Rattle.formula_write.proofs.Lengths.{capped-below}
 
 -- ---- after the tests
 

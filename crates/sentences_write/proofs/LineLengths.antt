@@ -17,9 +17,9 @@ use Rattle.steps.specs.Trace.{Line}
 use Rattle.goals.specs.Kept.{lineAt}
 use Rattle.sentences.specs.Formula.{propositionText, goalText}
 use Rattle.sentences.specs.Sentences.{ruleName, namedText, lineText}
-use Rattle.sentences_write.specs.Length.{capped, lengthOf, Holds}
+use Rattle.formula_write.specs.Length.{capped, lengthOf, Holds}
 use Rattle.sentences_write.specs.Naming.{isNaming, namedAt}
-use Rattle.sentences_write.proofs.Lengths.{length-after}
+use Rattle.formula_write.proofs.Lengths.{length-after}
 use Rattle.sentences_write.proofs.Named.{named-text}
 
 -- A blank and the formula, where the rule names one,

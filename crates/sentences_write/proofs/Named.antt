@@ -22,7 +22,7 @@ use Rattle.goals.specs.Kept.{lineAt}
 use Rattle.sentences.specs.Formula.{propositionText, goalText}
 use Rattle.sentences.specs.Sentences.{ruleName, namedText, lineText}
 use Rattle.sentences_write.specs.Naming.{namings, isNaming, namedAt, NamingIsNamed}
-use Rattle.sentences_write.proofs.Filled.{Filled, filled-as, filled-none}
+use Rattle.formula_write.proofs.Filled.{Filled, filled-as, filled-none}
 
 pub naming-is-named : NamingIsNamed
 unfolding isNaming

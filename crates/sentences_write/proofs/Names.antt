@@ -6,7 +6,7 @@ use lib.ListN.{List·getD-eq-default}
 use Rattle.text.specs.Ascii.{ascii}
 use Rattle.rules.proofs.Tests.{NoneBelow, past}
 use Rattle.sentences.specs.Sentences.{ruleNames, ruleName}
-use Rattle.sentences_write.proofs.Filled.{Filled, filled-as, filled-none}
+use Rattle.formula_write.proofs.Filled.{Filled, filled-as, filled-none}
 
 -- from 12 on a code has no name
 pub no-name : (code : ℕ) → NoneBelow 12 code → ruleName code ≡ []

@@ -1,6 +1,4 @@
 // A record's proof in sentences, written into lent bytes.
-mod formula;
-mod length;
 mod line;
 mod lines;
 mod measure;

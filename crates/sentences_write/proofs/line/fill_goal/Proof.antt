@@ -8,7 +8,7 @@ use Rattle.table.specs.Tests.{entries}
 use Rattle.steps.specs.declared.goal.Goal.{Goal}
 use Rattle.steps.specs.Carried.{judgment}
 use Rattle.sentences.specs.Formula.{goalText}
-use Rattle.sentences_write.proofs.Filled.{filled-as}
+use Rattle.formula_write.proofs.Filled.{filled-as}
 use Rattle.sentences_write.proofs.line.fill_goal.Statement.{statement}
 use Rattle.sentences_write.proofs.line.fill_goal.Tie as tie
 

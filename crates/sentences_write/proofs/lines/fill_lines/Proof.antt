@@ -13,7 +13,7 @@ use Rattle.table.specs.Tests.{entries}
 use Rattle.steps.specs.declared.goal.Goal.{Goal}
 use Rattle.goals.specs.Kept.{lineAt}
 use Rattle.sentences.specs.Sentences.{lineText}
-use Rattle.sentences_write.proofs.Filled.{Filled, filled-as, filled-none}
+use Rattle.formula_write.proofs.Filled.{Filled, filled-as, filled-none}
 use Rattle.sentences_write.proofs.Reached.{Reached, reached-none, reached-more, reached-all}
 use Rattle.sentences_write.proofs.lines.fill_lines.Statement.{statement}
 use Rattle.sentences_write.proofs.lines.fill_lines.Tie as tie

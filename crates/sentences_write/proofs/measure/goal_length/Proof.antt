@@ -9,8 +9,8 @@ use Rattle.table.specs.Spelled.{spelled, spell}
 use Rattle.steps.specs.declared.goal.Goal.{Goal}
 use Rattle.steps.specs.Carried.{judgment}
 use Rattle.sentences.specs.Formula.{principalText, propositionText, goalText}
-use Rattle.sentences_write.specs.Length.{capped, lengthOf}
-use Rattle.sentences_write.proofs.Lengths.{length-then, length-after}
+use Rattle.formula_write.specs.Length.{capped, lengthOf}
+use Rattle.formula_write.proofs.Lengths.{length-then, length-after}
 use Rattle.sentences_write.proofs.measure.goal_length.Statement.{statement}
 use Rattle.sentences_write.proofs.measure.goal_length.Tie as tie
 

@@ -10,8 +10,8 @@ use Rattle.table.specs.Tests.{entries}
 use Rattle.steps.specs.declared.goal.Goal.{Goal}
 use Rattle.goals.specs.Kept.{lineAt}
 use Rattle.sentences.specs.Sentences.{lineText}
-use Rattle.sentences_write.specs.Length.{capped}
-use Rattle.sentences_write.proofs.Lengths.{length-then}
+use Rattle.formula_write.specs.Length.{capped}
+use Rattle.formula_write.proofs.Lengths.{length-then}
 use Rattle.sentences_write.proofs.Reached.{Reached, lineTextAt, reached-none, reached-more, reached-all}
 use Rattle.sentences_write.proofs.measure.lines_length.Statement.{statement}
 use Rattle.sentences_write.proofs.measure.lines_length.Tie as tie

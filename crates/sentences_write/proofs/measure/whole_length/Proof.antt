@@ -6,7 +6,7 @@ use denote.Ref.{now}
 use borrow.Author.Needs.{needs}
 use Rattle.basics.specs.Limits.{mostFormulas}
 use Rattle.table.specs.Tests.{entries}
-use Rattle.sentences_write.proofs.Lengths.{measured-whole}
+use Rattle.formula_write.proofs.Lengths.{measured-whole}
 use Rattle.sentences_write.proofs.measure.whole_length.Statement.{statement}
 use Rattle.sentences_write.proofs.measure.whole_length.Tie as tie
 

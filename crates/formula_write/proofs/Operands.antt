@@ -7,16 +7,21 @@ use lib.ListN.{take}
 use Rattle.text.specs.Ascii.{ascii}
 use Rattle.text.proofs.Places.{fill-then}
 use Rattle.logic.specs.Proposition.{false}
+use denote.Enum.Declared.{tagOf}
 use Rattle.table.specs.declared.entry.Atom as A
 use Rattle.table.specs.declared.entry.Entry.{Entry}
 use Rattle.table.specs.declared.entry.Entry.the-variants.{Atom, False, Implies, And, Or, Says, IllFormed}
 use Rattle.table.specs.Tests.{entryAt}
 use Rattle.table.specs.Spelled.{proposition, spelled, spell}
 use Rattle.table.proofs.Spelled.{made-before, among-lower, among-higher}
-use Rattle.rules.proofs.OtherKind.{tag}
+use Rattle.table.proofs.entry.Entry.{the-type}
 use Rattle.sentences.specs.Formula.{propositionText}
-use Rattle.sentences_write.specs.Operand.{operandText, leftText, wordText, rightText, inBrackets}
-use Rattle.sentences_write.proofs.Filled.{Filled, filled-as}
+use Rattle.formula_write.specs.Operand.{operandText, leftText, wordText, rightText, inBrackets}
+use Rattle.formula_write.proofs.Filled.{Filled, filled-as}
+
+-- the tag of an entry: its kind's place in 01's order
+abbrev pub tag : Entry → ℕ
+tag e = tagOf the-type e
 
 -- The text of a number is that of its entry.
 pub filled-entry : (old : List ℕ) (p : ℕ) (es : List Entry) (n : ℕ) {e x : Entry} {out : List ℕ} {r : ℕ}

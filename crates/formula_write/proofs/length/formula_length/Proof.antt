@@ -1,9 +1,9 @@
 -- `length::formula_length` meets its contract, whether a number has a length or none. Assumes nothing.
 use borrow.Author.Needs.{needs}
 use denote.Ref.{now}
-use Rattle.sentences_write.proofs.Lengths.{length-made, length-unmade}
-use Rattle.sentences_write.proofs.length.formula_length.Statement.{statement}
-use Rattle.sentences_write.proofs.length.formula_length.Tie as tie
+use Rattle.formula_write.proofs.Lengths.{length-made, length-unmade}
+use Rattle.formula_write.proofs.length.formula_length.Statement.{statement}
+use Rattle.formula_write.proofs.length.formula_length.Tie as tie
 
 returns : tie.Need-returns
 returns c = let a = c .before .before .args in length-made (now (a .lengths)) (a .n) (c .before .if1 .taken)

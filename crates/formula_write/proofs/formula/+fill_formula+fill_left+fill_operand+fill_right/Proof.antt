@@ -8,32 +8,32 @@ use denote.Ref.{now}
 use Rattle.text.specs.Ascii.{ascii}
 use Rattle.table.specs.Tests.{entries}
 use Rattle.sentences.specs.Formula.{propositionText}
-use Rattle.sentences_write.specs.Operand.{leftText, rightText}
-use Rattle.sentences_write.proofs.Filled.{filled-as, filled-none, filled-past}
-use Rattle.sentences_write.proofs.Operands.{filled-entry, filled-lower, filled-higher, filled-compound, no-left, no-right}
+use Rattle.formula_write.specs.Operand.{leftText, rightText}
+use Rattle.formula_write.proofs.Filled.{filled-as, filled-none, filled-past}
+use Rattle.formula_write.proofs.Operands.{filled-entry, filled-lower, filled-higher, filled-compound, no-left, no-right}
 use borrow.Fn.Kinds.{In}
 use borrow.Fn.PlainCycle.{Measures, is, falls, and}
-use Rattle.sentences_write.proofs.formula.fill_formula.Reads as fill-formula
-use Rattle.sentences_write.proofs.formula.fill_formula.Kinds as fill-formula-kinds
-use Rattle.sentences_write.proofs.formula.+fill_formula+fill_left+fill_operand+fill_right.Lts-fill_formula as fill-formula-lts
-use Rattle.sentences_write.proofs.formula.fill_left.Reads as fill-left
-use Rattle.sentences_write.proofs.formula.fill_left.Kinds as fill-left-kinds
-use Rattle.sentences_write.proofs.formula.+fill_formula+fill_left+fill_operand+fill_right.Lts-fill_left as fill-left-lts
-use Rattle.sentences_write.proofs.formula.fill_operand.Reads as fill-operand
-use Rattle.sentences_write.proofs.formula.fill_operand.Kinds as fill-operand-kinds
-use Rattle.sentences_write.proofs.formula.+fill_formula+fill_left+fill_operand+fill_right.Lts-fill_operand as fill-operand-lts
-use Rattle.sentences_write.proofs.formula.fill_right.Reads as fill-right
-use Rattle.sentences_write.proofs.formula.fill_right.Kinds as fill-right-kinds
-use Rattle.sentences_write.proofs.formula.+fill_formula+fill_left+fill_operand+fill_right.Lts-fill_right as fill-right-lts
-use Rattle.sentences_write.proofs.formula.fill_atom.Reads as fill-atom-reads
-use Rattle.sentences_write.proofs.formula.fill_principal.Reads as fill-principal-reads
-use Rattle.sentences_write.proofs.formula.fill_word.Reads as fill-word-reads
+use Rattle.formula_write.proofs.formula.fill_formula.Reads as fill-formula
+use Rattle.formula_write.proofs.formula.fill_formula.Kinds as fill-formula-kinds
+use Rattle.formula_write.proofs.formula.+fill_formula+fill_left+fill_operand+fill_right.Lts-fill_formula as fill-formula-lts
+use Rattle.formula_write.proofs.formula.fill_left.Reads as fill-left
+use Rattle.formula_write.proofs.formula.fill_left.Kinds as fill-left-kinds
+use Rattle.formula_write.proofs.formula.+fill_formula+fill_left+fill_operand+fill_right.Lts-fill_left as fill-left-lts
+use Rattle.formula_write.proofs.formula.fill_operand.Reads as fill-operand
+use Rattle.formula_write.proofs.formula.fill_operand.Kinds as fill-operand-kinds
+use Rattle.formula_write.proofs.formula.+fill_formula+fill_left+fill_operand+fill_right.Lts-fill_operand as fill-operand-lts
+use Rattle.formula_write.proofs.formula.fill_right.Reads as fill-right
+use Rattle.formula_write.proofs.formula.fill_right.Kinds as fill-right-kinds
+use Rattle.formula_write.proofs.formula.+fill_formula+fill_left+fill_operand+fill_right.Lts-fill_right as fill-right-lts
+use Rattle.formula_write.proofs.formula.fill_atom.Reads as fill-atom-reads
+use Rattle.formula_write.proofs.formula.fill_principal.Reads as fill-principal-reads
+use Rattle.formula_write.proofs.formula.fill_word.Reads as fill-word-reads
 use Rattle.table.proofs.entry.entry_at.Reads as entry-at-reads
 use Rattle.text.proofs.fill.fill.Reads as fill-reads
-use Rattle.sentences_write.proofs.formula.+fill_formula+fill_left+fill_operand+fill_right.{
+use Rattle.formula_write.proofs.formula.+fill_formula+fill_left+fill_operand+fill_right.{
   statement,
 }
-use Rattle.sentences_write.proofs.formula.+fill_formula+fill_left+fill_operand+fill_right.Tie.{
+use Rattle.formula_write.proofs.formula.+fill_formula+fill_left+fill_operand+fill_right.Tie.{
   close,
 }
 

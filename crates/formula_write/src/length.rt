@@ -9,7 +9,7 @@ ghost use Rattle.logic.specs.Proposition.{Proposition};
 ghost use Rattle.table.specs.Tests.{entries};
 ghost use Rattle.table.specs.Spelled.{among, proposition};
 ghost use Rattle.sentences.specs.Formula.{principalText};
-ghost use Rattle.sentences_write.specs.Length.{capped, lengthOf, lengthsOf};
+ghost use Rattle.formula_write.specs.Length.{capped, lengthOf, lengthsOf};
 use table::entry::Entry;
 use table::entry::Principal;
 use table::entry::take_apart;
@@ -18,7 +18,7 @@ use text::decimal::decimal_length;
 const TOO_LONG: usize = 9223372036854775808;
 
 // The length of two texts, one after the other.
-pub(crate) fn sum(a: usize, b: usize) -> usize
+pub fn sum(a: usize, b: usize) -> usize
     ensures { λ r. ⌜ r ≡ capped (a + b) ⌝ }
 {
     if a >= TOO_LONG {
@@ -32,7 +32,7 @@ pub(crate) fn sum(a: usize, b: usize) -> usize
 
 // The length of a formula's text, where those of the propositions that are made are at hand. Where there is none, as
 // `false` has.
-pub(crate) fn formula_length(lengths: &[usize], n: u16) -> usize
+pub fn formula_length(lengths: &[usize], n: u16) -> usize
     ensures { λ r. ⌜ ((made : List Proposition) → now (lengths .entry) ≡ map lengthOf made → r ≡ lengthOf (among made n)) ⌝ }
 {
     let i = n as usize;
@@ -43,7 +43,7 @@ pub(crate) fn formula_length(lengths: &[usize], n: u16) -> usize
 }
 
 // "principal 7 is p7"
-pub(crate) fn principal_length(k: Principal) -> usize
+pub fn principal_length(k: Principal) -> usize
     ensures { λ r. ⌜ r ≡ capped (length (principalText (k .0))) ⌝ }
 {
     sum(1, decimal_length(k.0 as usize))
@@ -76,7 +76,7 @@ fn entry_length(lengths: &[usize], entry: Entry) -> usize
 
 // Writes the length of each number's text, as far as there is room. An entry looks its operands up among those before
 // it, so one that isn't lower has the length of `false`, as it is spelled.
-pub(crate) fn measure_formulas(heads: &[u16], seconds: &[u16], lengths: &mut [usize])
+pub fn measure_formulas(heads: &[u16], seconds: &[u16], lengths: &mut [usize])
     ensures { λ _. ⌜ now (lengths .exit) ≡ written (now (lengths .entry)) (lengthsOf (entries (now (heads .entry)) (now (seconds .entry)))) ⌝ }
 {
     let mut i = 0;

@@ -3,11 +3,11 @@ use mathlib.Core.Path.{sym, ap}
 use denote.Ref.{now}
 use borrow.Author.Needs.{needs}
 use Rattle.text.specs.Ascii.{ascii}
-use Rattle.sentences_write.specs.Operand.{wordText}
-use Rattle.sentences_write.proofs.Filled.{filled-as, filled-none}
-use Rattle.sentences_write.proofs.Operands.{no-word}
-use Rattle.sentences_write.proofs.formula.fill_word.Statement.{statement}
-use Rattle.sentences_write.proofs.formula.fill_word.Tie as tie
+use Rattle.formula_write.specs.Operand.{wordText}
+use Rattle.formula_write.proofs.Filled.{filled-as, filled-none}
+use Rattle.formula_write.proofs.Operands.{no-word}
+use Rattle.formula_write.proofs.formula.fill_word.Statement.{statement}
+use Rattle.formula_write.proofs.formula.fill_word.Tie as tie
 
 returns : tie.Need-returns
 unfolding ascii

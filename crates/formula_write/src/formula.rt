@@ -10,7 +10,7 @@ ghost use Rattle.text.specs.Fill.{placeAfter};
 ghost use Rattle.table.specs.Tests.{entries};
 ghost use Rattle.table.specs.Spelled.{spell};
 ghost use Rattle.sentences.specs.Formula.{propositionText, principalText};
-ghost use Rattle.sentences_write.specs.Operand.{operandText, leftText, wordText, rightText};
+ghost use Rattle.formula_write.specs.Operand.{operandText, leftText, wordText, rightText};
 use table::entry::Atom;
 use table::entry::Entry;
 use table::entry::Formula;
@@ -29,7 +29,7 @@ fn fill_atom(a: Atom, text: &mut [u8], at: usize) -> usize
 }
 
 // "principal 7 is p7"
-pub(crate) fn fill_principal(k: Principal, text: &mut [u8], at: usize) -> usize
+pub fn fill_principal(k: Principal, text: &mut [u8], at: usize) -> usize
     ensures { λ _. ⌜ now (text .exit) ≡ writtenAt (now (text .entry)) at (principalText (k .0)) ⌝ }
     ensures { λ r. ⌜ r ≡ placeAfter (now (text .entry)) at (principalText (k .0)) ⌝ }
 {
@@ -115,13 +115,7 @@ fn fill_right(
 // Writes the text of a number's formula from the place `at` on, as far as there is room, and gives the place after it.
 // All compound kinds share one arm, so that the functions above are compiled into this one and a level of the recursion
 // is one small frame.
-pub(crate) fn fill_formula(
-    heads: &[u16],
-    seconds: &[u16],
-    n: u16,
-    text: &mut [u8],
-    at: usize,
-) -> usize
+pub fn fill_formula(heads: &[u16], seconds: &[u16], n: u16, text: &mut [u8], at: usize) -> usize
     ensures { λ _. ⌜ now (text .exit) ≡ writtenAt (now (text .entry)) at (propositionText (spell (entries (now (heads .entry)) (now (seconds .entry))) n)) ⌝ }
     ensures { λ r. ⌜ r ≡ placeAfter (now (text .entry)) at (propositionText (spell (entries (now (heads .entry)) (now (seconds .entry))) n)) ⌝ }
 {

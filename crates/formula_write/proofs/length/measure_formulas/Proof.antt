@@ -13,10 +13,10 @@ use Rattle.table.specs.declared.entry.Entry.{Entry}
 use Rattle.table.specs.Tests.{entries}
 use Rattle.table.specs.Spelled.{proposition, spelled}
 use Rattle.table.proofs.Entries.{length-entries, entry-at}
-use Rattle.sentences_write.specs.Length.{lengthOf}
-use Rattle.sentences_write.proofs.Lengths.{Measured, measured-none, measured-front, measured-more, measured-all}
-use Rattle.sentences_write.proofs.length.measure_formulas.Statement.{statement}
-use Rattle.sentences_write.proofs.length.measure_formulas.Tie as tie
+use Rattle.formula_write.specs.Length.{lengthOf}
+use Rattle.formula_write.proofs.Lengths.{Measured, measured-none, measured-front, measured-more, measured-all}
+use Rattle.formula_write.proofs.length.measure_formulas.Statement.{statement}
+use Rattle.formula_write.proofs.length.measure_formulas.Tie as tie
 
 abbrev Inv-loop : tie.InvT-loop
 Inv-loop heads seconds lengths₀ i₀ lengths i =

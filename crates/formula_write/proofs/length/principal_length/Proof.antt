@@ -2,9 +2,9 @@
 use borrow.Author.Needs.{needs}
 use Rattle.text.specs.Ascii.{ascii}
 use Rattle.text.specs.Decimal.{decimal}
-use Rattle.sentences_write.proofs.Lengths.{length-counted}
-use Rattle.sentences_write.proofs.length.principal_length.Statement.{statement}
-use Rattle.sentences_write.proofs.length.principal_length.Tie as tie
+use Rattle.formula_write.proofs.Lengths.{length-counted}
+use Rattle.formula_write.proofs.length.principal_length.Statement.{statement}
+use Rattle.formula_write.proofs.length.principal_length.Tie as tie
 
 returns : tie.Need-returns
 unfolding ascii

@@ -19,8 +19,8 @@ use Rattle.table.specs.Tests.{entryAt}
 use Rattle.table.specs.Spelled.{among, proposition, spelledAfter, spelled}
 use Rattle.table.proofs.Spelled.{length-spelled, spelled-next, spelled-front}
 use Rattle.sentences.specs.Formula.{propositionText}
-use Rattle.sentences_write.specs.Operand.{inBrackets}
-use Rattle.sentences_write.specs.Length.{capped, lengthOf, lengthsOf, CappedBelow}
+use Rattle.formula_write.specs.Operand.{inBrackets}
+use Rattle.formula_write.specs.Length.{capped, lengthOf, lengthsOf, CappedBelow}
 
 pub capped-below : CappedBelow
 capped-below room n l = by (decLt room n)

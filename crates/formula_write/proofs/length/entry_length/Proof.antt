@@ -8,10 +8,10 @@ use Rattle.logic.specs.Proposition.{Proposition}
 use Rattle.table.specs.declared.entry.Entry.{Entry}
 use Rattle.table.specs.Spelled.{among, proposition}
 use Rattle.sentences.specs.Formula.{principalText, propositionText}
-use Rattle.sentences_write.specs.Length.{lengthOf}
-use Rattle.sentences_write.proofs.Lengths.{length-counted, length-brackets}
-use Rattle.sentences_write.proofs.length.entry_length.Statement.{statement}
-use Rattle.sentences_write.proofs.length.entry_length.Tie as tie
+use Rattle.formula_write.specs.Length.{lengthOf}
+use Rattle.formula_write.proofs.Lengths.{length-counted, length-brackets}
+use Rattle.formula_write.proofs.length.entry_length.Statement.{statement}
+use Rattle.formula_write.proofs.length.entry_length.Tie as tie
 
 -- the length of an entry's text, where its kind is known
 length-of : (made : List Proposition) {e x : Entry} → e ≡ x → lengthOf (proposition made x) ≡ lengthOf (proposition made e)

@@ -2,8 +2,8 @@
 use borrow.Author.Needs.{needs}
 use Rattle.text.specs.Ascii.{ascii}
 use Rattle.text.proofs.Places.{fill-then}
-use Rattle.sentences_write.proofs.formula.fill_principal.Statement.{statement}
-use Rattle.sentences_write.proofs.formula.fill_principal.Tie as tie
+use Rattle.formula_write.proofs.formula.fill_principal.Statement.{statement}
+use Rattle.formula_write.proofs.formula.fill_principal.Tie as tie
 
 returns : tie.Need-returns
 unfolding ascii

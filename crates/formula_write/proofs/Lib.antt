@@ -1,0 +1,4 @@
+-- The laws behind the code.
+pub mod Filled
+pub mod Operands
+pub mod Lengths
