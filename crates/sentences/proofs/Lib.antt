@@ -8,3 +8,4 @@ pub mod Refused
 pub mod Small
 pub mod Printed
 pub mod Samples
+pub mod Feeds

@@ -3,6 +3,7 @@
 -- the program prints; and samples.
 pub mod Formula
 pub mod Sentences
+pub mod Feeds
 pub mod Told
 pub mod Answer
 pub mod Promises
