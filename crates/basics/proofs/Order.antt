@@ -180,13 +180,6 @@ skip-all : (ms ns : List ℕ) (ts : List Test) → Follows ns ts → Follows (ms
 skip-all [] ns ts f = f
 skip-all (m ∷ ms) ns ts f = skip m (ms ++ ns) ts (skip-all ms ns ts f)
 
--- Tests that follow one order, and then tests that follow another.
-pub follows-joined : (order more : List ℕ) (ts us : List Test) → Follows order ts → Follows more us → Follows (order ++ more) (ts ++ us)
-follows-joined order more [] us f g = skip-all order more us g
-follows-joined [] more (t ∷ ts) us f g = absurd f
-follows-joined (n ∷ ns) more (t ∷ ts) us (inl (is, f)) g = inl (is, follows-joined ns more ts us f g)
-follows-joined (n ∷ ns) more (t ∷ ts) us (inr f) g = inr (follows-joined ns more (t ∷ ts) us f g)
-
 -- A test with one of several numbers, and tests after all of them.
 pub one-of : (ms ns : List ℕ) (t : Test) (ts : List Test) → t .number ∈ ms → Follows ns ts → Follows (ms ++ ns) (t ∷ ts)
 one-of [] ns t ts m f = absurd (List·Memᴰ·not-nil m)

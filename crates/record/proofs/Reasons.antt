@@ -93,7 +93,7 @@ module _ (file : List ℕ) (room number p : ℕ) where
   reasons = (from-reason, to-reason)
 
 -- The tests stand in the checking order.
-pub follows : (file : List ℕ) (room : ℕ) → Follows checkingOrder (tests file room)
+follows : (file : List ℕ) (room : ℕ) → Follows checkingOrder (tests file room)
 follows file room =
     let range : (n p : ℕ) → stepVerdict file ≡ Walk.Refused n p → (9 ≤ n) × (n ≤ 15) = λ n p e. let (l, m, _) = step-number file n p e in (l, m) in
     let from-9 = walked-follows (stepVerdict file) range in

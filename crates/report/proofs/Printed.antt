@@ -25,7 +25,7 @@ use Rattle.line.proofs.Printed.{line-of-call}
 use Rattle.sentences.specs.declared.verdict.SentencesVerdict.{SentencesVerdict}
 use Rattle.sentences.specs.declared.verdict.SentencesVerdict.the-variants.{Written, Refused}
 use Rattle.sentences.specs.Answer.{recordText, sentencesAnswer, textAfter}
-use Rattle.sentences.specs.Printed.{spoken, printedText}
+use Rattle.sentences.specs.Printed.{printedFor, printedText}
 use Rattle.sentences.proofs.Answer.{text-fits}
 
 -- "lends a list of 256 words" (01)
@@ -60,7 +60,7 @@ module _ (file before : List ℕ) {v : SentencesVerdict} (answered : v ≡ sente
       → Owed before (printedText file (length before)) bytes after
   text-printed {count} {bytes} {after} is left =
       let (fits, sized) = text-fits file mostStatements (length before) count bytes (answer-is ∙ is) in
-      let same : printedText file (length before) ≡ recordText file = ap (spoken file) (answer-is ∙ is) in
+      let same : printedText file (length before) ≡ recordText file = ap (printedFor file) (answer-is ∙ is) in
       let end : placeAfter before 0 (recordText file) ≡ 0 + length (recordText file) = fill-fits before 0 (recordText file) (omega arith) in
       let room : length (printedText file (length before)) ≤ length before = omega (arith, fits, ap length same) in
       owed-all before same (le-leb _ _ room) (
@@ -75,7 +75,7 @@ module _ (file before : List ℕ) {v : SentencesVerdict} (answered : v ≡ sente
       → mid ≡ textAfter file v before → Owed mid (recordLine (Record.Refused number place) list) count after → Owed before (printedText file (length before)) count after
   unfolding recordLine
   refusal-printed list {number} {place} {count} {mid} {after} is left owed =
-      let same : printedText file (length before) ≡ refusedLine number place = ap (spoken file) (answer-is ∙ is) in
+      let same : printedText file (length before) ≡ refusedLine number place = ap (printedFor file) (answer-is ∙ is) in
       let lent-same : mid ≡ before = left ∙ ap (λ (w : SentencesVerdict). textAfter file w before) is in
       subst (λ (line : List ℕ). Owed before line count after) (sym same)
       (subst (λ (text : List ℕ). Owed text (refusedLine number place) count after) lent-same owed)

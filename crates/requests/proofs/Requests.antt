@@ -1,7 +1,8 @@
 -- The requests are met (specs/Requests.antt). Assumes nothing.
 use Rattle.line.proofs.Printed.{one-line, line-of-grant}
-use Rattle.sentences.proofs.Text.{text-of-derivation, line-per-step, same-text}
-use Rattle.sentences.proofs.Samples.{text-of-a, text-of-every-rule, answers, left}
+use Rattle.sentences.proofs.Text.{text-of-derivation, line-per-step, same-lines, same-text}
+use Rattle.sentences.proofs.Feeds.{feed-per-line}
+use Rattle.sentences.proofs.Samples.{text-of-a, other-numbers, text-of-every-rule, answers, lent-after}
 use Rattle.requests.specs.Requests.{Requests}
 use Rattle.requests.proofs.Order.{signers-rise, release-grants, order-not-free, one-possible-line, count-stays}
 use Rattle.requests.proofs.Sentences.{release-written, else-refused}
@@ -19,11 +20,14 @@ requests = record {
   in-order = in-order;
   text-of-derivation = text-of-derivation;
   line-per-step = line-per-step;
+  feed-per-line = feed-per-line;
   text-of-a = text-of-a;
   text-of-every-rule = text-of-every-rule;
   same-text = same-text;
+  same-lines = same-lines;
+  other-numbers = other-numbers;
   release-written = release-written;
   else-refused = else-refused;
   answers = answers;
-  left = left;
+  lent-after = lent-after;
 }

@@ -2,8 +2,9 @@
 -- `Grants` is a call that grants a file: its answer and its list are what the contract of `check_record` says, as for
 -- every release. `Call` is any call of `write_sentences`. Assumes nothing.
 use Rattle.line.specs.Printed.{OneLine, LineOfGrant}
-use Rattle.sentences.specs.Promises.{TextOfDerivation, LinePerStep, SameText}
-use Rattle.sentences.specs.Samples.{TextOfA, TextOfEveryRule, Answers, Left}
+use Rattle.sentences.specs.Promises.{TextOfDerivation, LinePerStep, SameLines, SameText}
+use Rattle.sentences.specs.Feeds.{FeedPerLine}
+use Rattle.sentences.specs.Samples.{TextOfA, OtherNumbers, TextOfEveryRule, Answers, LentAfter}
 use Rattle.requests.specs.Order.{SignersRise, ReleaseGrants, OrderNotFree, OnePossibleLine, CountStays}
 use Rattle.requests.specs.Sentences.{ReleaseWritten, ElseRefused}
 use Rattle.requests.specs.Samples.{InOrder}
@@ -21,19 +22,22 @@ pub record Requests : Type 0 where
   -- As many are counted as before, and the samples.
   pub count-stays : CountStays
   pub in-order : InOrder
-  -- Job 2. "Write a granted record's proof as text, one line a step: the step number, the rule's name, the named formula
-  -- if any, the word for, and the goal."
+  -- Job 2. "Write a granted record's proof as text, one line a step: the step number, the rule's name, the named
+  -- formula if any, the word for, and the goal." (sentences/specs/Sentences.antt)
   pub text-of-derivation : TextOfDerivation
   pub line-per-step : LinePerStep
-  -- "Record A gives .." 02's four lines; and each rule once, with its name.
+  pub feed-per-line : FeedPerLine
+  -- "Record A gives .." 02's four lines; and every rule, with its name.
   pub text-of-a : TextOfA
   pub text-of-every-rule : TextOfEveryRule
   -- "Two granted records have equal texts only if their goals are the same formula and their steps apply the same rules
   -- to the same formulas, whichever numbers the tables use": and if they do.
   pub same-text : SameText
+  pub same-lines : SameLines
+  pub other-numbers : OtherNumbers
   -- "The signers' list is lent and filled too."
   pub release-written : ReleaseWritten
   -- "Refused: 16, after 15, the lent bytes are fewer than the whole text; place 0."
   pub else-refused : ElseRefused
   pub answers : Answers
-  pub left : Left
+  pub lent-after : LentAfter

@@ -12,13 +12,13 @@ use Rattle.sentences.specs.declared.verdict.SentencesVerdict.{SentencesV
 use Rattle.sentences.specs.declared.verdict.SentencesVerdict.the-variants.{Written, Refused}
 use Rattle.sentences.specs.Answer.{sentencesAnswer}
 use Rattle.sentences.specs.Promises.{Small}
-use Rattle.sentences.specs.Printed.{spoken, printedText, WholeText}
+use Rattle.sentences.specs.Printed.{printedFor, printedText, WholeText}
 use Rattle.sentences.proofs.Answer.{text-fits}
 use Rattle.sentences.proofs.Small.{answers-small}
 
 -- A text that is written fits the bytes that are lent, and a refusal's line fits where there is room for any line.
 fits : (file : List ℕ) (bytes : ℕ) → mostLine ≤ bytes → (v : SentencesVerdict) → sentencesAnswer file mostStatements bytes ≡ v
-    → length (spoken file v) ≤ bytes
+    → length (printedFor file v) ≤ bytes
 fits file bytes room (Written count written) e = text-fits file mostStatements bytes count written e .0
 fits file bytes room (Refused number place) e =
     let (least, most, within) = subst (Small bytes) e (answers-small file mostStatements bytes) in

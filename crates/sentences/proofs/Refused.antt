@@ -1,62 +1,155 @@
--- A file is refused by the first reason in the order that applies (specs/Promises.antt, `RefusedExactly`). Assumes
--- nothing.
-use Prim.Native.Nat.{ℕ, _<_}
-use mathlib.Core.Bool.{true}
-use mathlib.Core.Path.{_≡_, refl, sym}
-use mathlib.Core.Logic.{_↔_, Iff·trans, _⊎_, inl, inr, ⊎-elim}
-use mathlib.Core.List.{List, [], _∷_}
+-- A file is refused by the first reason in the order that applies (specs/Promises.antt, `RefusedExactly`): by the
+-- record's own first reason, or, where the record is granted, by 16. Assumes nothing.
+use Prim.Native.Nat.{ℕ, _≤_, _<_}
+use native.Mathlib.Omega.{arith}
+use mathlib.Core.Bool.{Bool, true, false, true≢false}
+use mathlib.Core.Path.{_≡_, refl, sym, ap, subst, _∙_}
+use mathlib.Core.Logic.{⊎-elim}
+use mathlib.Core.List.{List, [], _∷_, _++_, List·Memᴰ·cases-cons, List·Memᴰ·not-nil}
 use lib.ListN.{length}
-use lib.Dec.{ltb}
-use Rattle.basics.specs.declared.place.Place.the-variants.{At}
-use Rattle.basics.specs.declared.tested.Tested.{Tested}
-use Rattle.basics.specs.declared.tested.Tested.the-variants as Outcome
-use Rattle.basics.specs.Membership.{holds}
-use Rattle.basics.specs.Refusals.{firstRefusal, unlessRefused}
-use Rattle.basics.specs.Order.{checkingOrder}
-use Rattle.basics.proofs.Asked.{less, at0-at}
-use Rattle.basics.proofs.Refusals.{not-passed}
-use Rattle.basics.proofs.Order.{OneApplies, one-of-three, distinct, refused-in-order, follows-joined}
+use lib.Dec.{eqb, ltb}
+use borrow.Author.Tests.{eq-eqb}
+use Rattle.basics.specs.Choice.{pick}
+use Rattle.basics.specs.Membership.{_∈_}
+use Rattle.basics.specs.Order.{FirstReason, checkingOrder, before}
+use Rattle.basics.proofs.Asked.{less}
+use Rattle.basics.proofs.Choice.{pick-cases}
+use Rattle.basics.proofs.Refusals.{passed-by-all}
+use Rattle.basics.proofs.Order.{none-has, row, in-row, in-checking-order, before-is-lower}
+use Rattle.record.specs.declared.verdict.RecordVerdict.{RecordVerdict}
+use Rattle.record.specs.declared.verdict.RecordVerdict.the-variants as Verdict
 use Rattle.record.specs.Answer as Record
-use Rattle.record.proofs.Reasons.{reasons, follows}
+use Rattle.record.specs.Answer.{recordAnswer}
+use Rattle.record.specs.Proof.{Keeps, IsProof}
+use Rattle.record.specs.Reasons.{Reason}
+use Rattle.record.proofs.Answered.{answer-granted}
+use Rattle.record.proofs.Granted.{granted-exactly}
+use Rattle.record.proofs.Reasons as Reasons
+use Rattle.record.proofs.Reasons.{reasons, reason-range}
+use Rattle.sentences.specs.declared.verdict.SentencesVerdict.{SentencesVerdict}
 use Rattle.sentences.specs.declared.verdict.SentencesVerdict.the-variants.{Written, Refused}
-use Rattle.sentences.specs.Answer.{recordText, textShort, tests, sentencesAnswer}
-use Rattle.sentences.specs.Promises.{sentencesOrder, SentencesReason, of-record, text-short, RefusedExactly}
-use Rattle.sentences.proofs.Answer.{last, not-written}
+use Rattle.sentences.specs.Answer.{recordText, sentencesAnswer, afterRecord}
+use Rattle.sentences.specs.Promises.{proofText, sentencesOrder, SentencesReason, of-record, text-short, RefusedExactly}
+use Rattle.sentences.proofs.Answer.{not-written, answer-after-record}
+use Rattle.sentences.proofs.Text.{text-of-derivation}
 
-is-distinct : distinct sentencesOrder ≡ true
-unfolding distinct holds
-is-distinct = refl
+-- ---- the order
+
+-- Before one of the first numbers stand those of the first.
+before-joined : (ns more : List ℕ) (number : ℕ) → number ∈ ns → before (ns ++ more) number ≡ before ns number
+unfolding before
+before-joined [] more number m = absurd (List·Memᴰ·not-nil m)
+before-joined (n ∷ ns) more number m = by (before-joined ns more number) (eqb n number) refl
+  where
+    later : eqb n number ≡ false → number ∈ ns
+    later e = ⊎-elim (λ q. absurd (true≢false (sym (eq-eqb n number (sym q)) ∙ e))) (λ i. i) (List·Memᴰ·cases-cons m)
+
+    by : (number ∈ ns → before (ns ++ more) number ≡ before ns number) → (b : Bool) → eqb n number ≡ b
+        → pick b [] (n ∷ before (ns ++ more) number) ≡ pick b [] (n ∷ before ns number)
+    by rest true e = refl
+    by rest false e = ap (λ (l : List ℕ). n ∷ l) (rest (later e))
+
+-- Before 16 stand the record's numbers.
+before-16 : before sentencesOrder 16 ≡ checkingOrder
+unfolding before
+before-16 = refl
+
+in-order : (n : ℕ) → (1 ≤ n) × (n ≤ 15) → n ∈ checkingOrder
+unfolding row
+in-order n (least, most) = in-row 1 15 n least (omega arith)
 
 module _ (file : List ℕ) (room bytes : ℕ) where
-  refuses : (t : Tested) (n m number p : ℕ) → unlessRefused Refused t (Written n m) ≡ Refused number p ↔ t ≡ Outcome.Refused number p
-  refuses Outcome.Passed n m number p = (λ e. absurd (not-written (sym e)), λ e. absurd (not-passed (sym e)))
-  refuses (Outcome.Refused k q) n m number p = (λ e. cc, λ e. cc)
+  -- A reason of the record has one of its numbers, and stands before 16.
+  of-order : (number p : ℕ) → Reason file room number p → number ∈ checkingOrder
+  of-order number p r = in-order number (reason-range file room number p r)
 
-  module _ (number p : ℕ) where
-    sixteen : textShort file bytes ≡ At p ↔ ((p ≡ 0) × (bytes < length (recordText file)))
-    sixteen = at0-at (ltb bytes (length (recordText file))) p (less bytes (length (recordText file)))
+  before-record : (number p : ℕ) → Reason file room number p → before sentencesOrder number ≡ before checkingOrder number
+  before-record number p r = before-joined checkingOrder (16 ∷ []) number (of-order number p r)
 
-    joined : OneApplies (tests file room bytes) number p ↔ (OneApplies (Record.tests file room) number p ⊎ (OneApplies (last file room bytes ∷ []) number p ⊎ ⊥))
-    joined = one-of-three (Record.tests file room) (last file room bytes ∷ []) [] number p
+  -- 16 itself stands before none of them.
+  not-16 : (number p : ℕ) → Reason file room number p → ¬ (16 ∈ before sentencesOrder number)
+  not-16 number p r m =
+      let (least, most) = reason-range file room number p r in
+      let (_, less) = before-is-lower number 16 least most .0 (subst (λ (l : List ℕ). 16 ∈ l) (before-record number p r) m) in
+      omega arith
 
-    from-reason : SentencesReason file room bytes number p → OneApplies (tests file room bytes) number p
-    from-reason (of-record r) = joined .1 (inl (reasons file room number p .0 r))
-    from-reason (text-short n z l) = joined .1 (inr (inl (inl (sym n, sixteen .1 (z, l)))))
+  -- ---- the record is refused
 
-    to-reason : OneApplies (tests file room bytes) number p → SentencesReason file room bytes number p
-    to-reason one =
-        ⊎-elim (λ r. of-record (reasons file room number p .1 r))
-        (⊎-elim (⊎-elim (λ (n, at). let (z, l) = sixteen .0 at in text-short (sym n) z l) absurd) absurd)
-        (joined .0 one)
+  first-of-record : (number p : ℕ) → FirstReason checkingOrder (Reason file room) number p
+      → FirstReason sentencesOrder (SentencesReason file room bytes) number p
+  first-of-record number p r = record {
+    applies = of-record (r .applies);
+    none-before = λ n q m. λ s. none n q m s;
+  }
+    where
+      none : (n q : ℕ) → n ∈ before sentencesOrder number → ¬ SentencesReason file room bytes n q
+      none n q m (of-record other) = r .none-before n q (subst (λ (l : List ℕ). n ∈ l) (before-record number p (r .applies)) m) other
+      none n q m (text-short is z proof l) = not-16 number p (r .applies) (subst (λ (k : ℕ). k ∈ before sentencesOrder number) is m)
 
-    -- Each reason is a test that applies.
-    same-reasons : SentencesReason file room bytes number p ↔ OneApplies (tests file room bytes) number p
-    same-reasons = (from-reason, to-reason)
+  of-first : (number p : ℕ) → (r : Reason file room number p)
+      → ((n q : ℕ) → n ∈ before sentencesOrder number → ¬ SentencesReason file room bytes n q)
+      → FirstReason checkingOrder (Reason file room) number p
+  of-first number p r none = record {
+    applies = r;
+    none-before = λ n q m other. none n q (subst (λ (l : List ℕ). n ∈ l) (sym (before-record number p r)) m) (of-record other);
+  }
+
+  -- ---- the record is granted
+
+  no-reason : (count : ℕ) → recordAnswer file room ≡ Verdict.Granted count → (n q : ℕ) → ¬ Reason file room n q
+  no-reason count e n q r =
+      let (passed, _) = answer-granted file room count .0 e in
+      none-has (Record.tests file room) .0 (passed-by-all (Record.tests file room) .0 passed) n q (reasons file room n q .0 r)
+
+  -- ---- either
+
+  refuses : (v : RecordVerdict) → recordAnswer file room ≡ v → (number p : ℕ) → afterRecord file bytes v ≡ Refused number p
+      → FirstReason sentencesOrder (SentencesReason file room bytes) number p
+  refuses (Verdict.Refused n q) e number p is =
+      let f : n ≡ number = cc in
+      let g : q ≡ p = cc in
+      first-of-record number p (Reasons.refused-exactly file room number p .0 (e ∙ cc))
+  refuses (Verdict.Granted count) e number p is = short (ltb bytes (length (recordText file))) refl is
+    where
+      none : (n q : ℕ) → n ∈ before sentencesOrder 16 → ¬ SentencesReason file room bytes n q
+      none n q m (of-record r) = no-reason count e n q r
+      none n q m (text-short sixteen z proof l) =
+          let (_, most) = in-checking-order n (subst (λ (l : List ℕ). n ∈ l) before-16 m) in omega arith
+
+      short : (b : Bool) → ltb bytes (length (recordText file)) ≡ b
+          → pick b (Refused 16 0) (Written count (length (recordText file))) ≡ Refused number p
+          → FirstReason sentencesOrder (SentencesReason file room bytes) number p
+      short true t h =
+          let grant = granted-exactly file room count .0 e in
+          let text = ap length (text-of-derivation file (grant .keeps) (grant .is-proof)) in
+          let l = less bytes (length (recordText file)) .0 t in
+          let f : 16 ≡ number = cc in
+          let g : 0 ≡ p = cc in
+          record {
+            applies = text-short (sym f) (sym g) (grant .is-proof) (omega (arith, text));
+            none-before = λ n q m. none n q (subst (λ (k : ℕ). n ∈ before sentencesOrder k) (sym f) m);
+          }
+      short false t h = absurd (not-written (sym h))
+
+  refused-by : (v : RecordVerdict) → recordAnswer file room ≡ v → (number p : ℕ) → SentencesReason file room bytes number p
+      → ((n q : ℕ) → n ∈ before sentencesOrder number → ¬ SentencesReason file room bytes n q)
+      → afterRecord file bytes v ≡ Refused number p
+  refused-by (Verdict.Refused n q) e number p (of-record r) none =
+      let is = sym e ∙ Reasons.refused-exactly file room number p .1 (of-first number p r none) in cc
+  refused-by (Verdict.Refused n q) e number p (text-short sixteen z proof l) none =
+      let r = Reasons.refused-exactly file room n q .0 e .applies in
+      let m : n ∈ before sentencesOrder 16 = subst (λ (o : List ℕ). n ∈ o) (sym before-16) (of-order n q r) in
+      absurd (none n q (subst (λ (k : ℕ). n ∈ before sentencesOrder k) (sym sixteen) m) (of-record r))
+  refused-by (Verdict.Granted count) e number p (of-record r) none = absurd (no-reason count e number p r)
+  refused-by (Verdict.Granted count) e number p (text-short sixteen z proof l) none =
+      let grant = granted-exactly file room count .0 e in
+      let text = ap length (text-of-derivation file (grant .keeps) proof) in
+      let t = less bytes (length (recordText file)) .1 (omega (arith, text)) in
+      ap (λ (b : Bool). pick b (Refused 16 0) (Written count (length (recordText file)))) t ∙ cc
 
 pub refused-exactly : RefusedExactly
-unfolding sentencesAnswer
 refused-exactly file room bytes number p =
-    Iff·trans (refuses file room bytes (firstRefusal (tests file room bytes)) _ _ number p)
-    (refused-in-order sentencesOrder is-distinct (tests file room bytes)
-    (follows-joined checkingOrder (16 ∷ []) (Record.tests file room) (last file room bytes ∷ []) (follows file room) (inl (refl, tt)))
-    (SentencesReason file room bytes) (same-reasons file room bytes) number p)
+    let after = answer-after-record file room bytes in (
+      λ e. refuses file room bytes (recordAnswer file room) refl number p (sym after ∙ e),
+      λ r. after ∙ refused-by file room bytes (recordAnswer file room) refl number p (r .applies) (r .none-before),
+    )

@@ -17,12 +17,17 @@ use Rattle.signers.specs.Signers.{signers}
 use Rattle.sentences.specs.Formula.{propositionText, goalText}
 use Rattle.sentences.specs.Sentences.{ruleName, namedText, lineText, sentencesFrom}
 use Rattle.sentences.specs.Answer.{sentencesAnswer}
-use Rattle.sentences.specs.Samples.{TextOfA, TextOfEveryRule, Answers, Left}
+use Rattle.sentences.specs.Samples.{TextOfA, OtherNumbers, TextOfEveryRule, Answers, LentAfter}
 
 pub text-of-a : TextOfA
 unfolding fileOf fileWords entries entry spelled spelledAfter holds opens step trace ascii digits decimal propositionText
     goalText ruleName namedText lineText sentencesFrom
 text-of-a = refl
+
+pub other-numbers : OtherNumbers
+unfolding fileOf fileWords entries entry spelled spelledAfter holds opens step trace ascii digits decimal propositionText
+    goalText ruleName namedText lineText sentencesFrom
+other-numbers = refl
 
 pub text-of-every-rule : TextOfEveryRule
 unfolding fileOf fileWords entries entry spelled spelledAfter holds opens step trace ascii digits decimal propositionText
@@ -35,7 +40,7 @@ unfolding sentencesAnswer firstRefusal wrongEntry repeatedEntry first into signe
     sentencesFrom
 answers = (refl, refl, refl, refl)
 
-pub left : Left
+pub lent-after : LentAfter
 unfolding into signers fileOf fileWords entries entry spelled spelledAfter holds opens step trace ascii digits decimal
     propositionText goalText ruleName namedText lineText sentencesFrom
-left = (refl, refl, refl, refl)
+lent-after = (refl, refl, refl, refl)

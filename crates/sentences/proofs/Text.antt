@@ -12,7 +12,7 @@ use Rattle.record.specs.Layout.{goal, statements, steps, table}
 use Rattle.record.specs.Proof.{goalOf, IsProof}
 use Rattle.record.proofs.IsProof.{closes-on-proof, lines-of-proof}
 use Rattle.sentences.specs.Sentences.{sentences}
-use Rattle.sentences.specs.Promises.{proofLines, TextOfDerivation, LinePerStep, ruleApplied, SameProof, SameText}
+use Rattle.sentences.specs.Promises.{proofLines, TextOfDerivation, LinePerStep, ruleApplied, SameProof, SameLines, SameText}
 use Rattle.sentences.proofs.Told.{sentences-told}
 use Rattle.sentences.proofs.Lines.{goals, firstOr, known, first-goal, determined}
 
@@ -36,17 +36,15 @@ goal-told p q e =
     ∙ ap (λ (ls : List Line). firstOr (truth false) (goals ls)) e
     ∙ first-goal (q .derivation) (truth false))
 
+pub same-lines : SameLines
+same-lines file other p q s = determined (p .derivation) (q .derivation) (ap truth (s .same-goal)) (s .same-steps)
+
 pub same-text : SameText
 same-text file other room room′ count count′ g h =
     let p = g .is-proof in
-    let q = h .is-proof in
-    let text = text-of-derivation file (g .keeps) p in
-    let text′ = text-of-derivation other (h .keeps) q in (
+    let q = h .is-proof in (
       λ e.
-          let same = sentences-told (proofLines p) (proofLines q) (known (p .derivation)) (known (q .derivation)) (sym text ∙ e ∙ text′) in
+          let same = sentences-told (proofLines p) (proofLines q) (known (p .derivation)) (known (q .derivation)) e in
           record { same-goal = goal-told p q same; same-steps = ap (map ruleApplied) same },
-      λ s.
-          text
-          ∙ ap sentences (determined (p .derivation) (q .derivation) (ap truth (s .same-goal)) (s .same-steps))
-          ∙ sym text′,
+      λ s. ap sentences (same-lines file other p q s),
     )

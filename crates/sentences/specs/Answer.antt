@@ -1,5 +1,5 @@
--- What a call answers that writes a record's proof in sentences, for every file of any bytes and length and every
--- length of what is lent, and what it leaves there. Proved in proofs/Answer.antt. Assumes nothing.
+-- What a call that writes a record's proof in sentences answers, for every file of any bytes and length and every length
+-- of what is lent, and what it leaves there. Proved in proofs/Answer.antt. Assumes nothing.
 use Prim.Native.Nat.{ℕ}
 use mathlib.Core.Path.{_≡_}
 use mathlib.Core.List.{List, [], _∷_, _++_}
@@ -38,7 +38,8 @@ tests file room bytes = Record.tests file room ++ (test 16 (textShort file bytes
 -- "A call that writes a list or a text .. gives how many words or bytes it wrote." (01)
 unfoldable pub sentencesAnswer : List ℕ → ℕ → ℕ → SentencesVerdict
 sentencesAnswer file room bytes =
-    unlessRefused Refused (firstRefusal (tests file room bytes)) (Written (length (signers file)) (length (recordText file)))
+    unlessRefused Refused (firstRefusal (tests file room bytes))
+    (Written (length (signers file)) (length (recordText file)))
 
 -- What is in the lent list after a call that has this answer, where it was `before`: "The signers' list is lent and
 -- filled too" (02). "A call .. writes from its start .. and changes nothing beyond"; "a refusal .. changes nothing that
@@ -60,4 +61,6 @@ afterRecord file bytes (Verdict.Refused number place) = Refused number place
 
 -- The answer is what follows the record's own.
 abbrev pub AnswerAfterRecord : Type 0
-AnswerAfterRecord = (file : List ℕ) (room bytes : ℕ) → sentencesAnswer file room bytes ≡ afterRecord file bytes (recordAnswer file room)
+AnswerAfterRecord =
+    (file : List ℕ) (room bytes : ℕ)
+    → sentencesAnswer file room bytes ≡ afterRecord file bytes (recordAnswer file room)

@@ -32,7 +32,7 @@ proofText p = sentences (proofLines p)
 abbrev pub TextOfDerivation : Type 0
 TextOfDerivation = (file : List ℕ) → Keeps file → (p : IsProof file) → recordText file ≡ proofText p
 
--- "one line a step"
+-- "one line a step" (and one line feed a line: `FeedPerLine`)
 abbrev pub LinePerStep : Type 0
 LinePerStep = (file : List ℕ) → Keeps file → IsProof file → length (recordLines file) ≡ length (steps file)
 
@@ -46,44 +46,53 @@ pub record SameProof {file other : List ℕ} (p : IsProof file) (q : IsProof oth
   pub same-goal : goalOf file ≡ goalOf other
   pub same-steps : map ruleApplied (proofLines p) ≡ map ruleApplied (proofLines q)
 
--- "Two granted records have equal texts only if" this is so; and if it is, they have. The rules and what they name
--- determine the goals of all steps.
+-- Then every line is the same: the rules and what they name determine the goals of all steps, and so the formulas that
+-- a rule that names nothing is applied to.
+abbrev pub SameLines : Type 0
+SameLines = (file other : List ℕ) (p : IsProof file) (q : IsProof other) → SameProof p q → proofLines p ≡ proofLines q
+
+-- "Two granted records have equal texts only if" this is so; and if it is, they have equal texts.
 abbrev pub SameText : Type 0
 SameText =
-    (file other : List ℕ) (room room′ count count′ : ℕ) (g : GrantSays file room count) (h : GrantSays other room′ count′)
-    → recordText file ≡ recordText other ↔ SameProof (g .is-proof) (h .is-proof)
+    (file other : List ℕ) (room room′ count count′ : ℕ)
+    → (g : GrantSays file room count) (h : GrantSays other room′ count′)
+    → proofText (g .is-proof) ≡ proofText (h .is-proof) ↔ SameProof (g .is-proof) (h .is-proof)
 
 -- ---- the answer
 
 -- What a written text says: the record is granted, and the text of its derivation fits the bytes lent for it.
-pub record WrittenSays (file : List ℕ) (room bytes count written : ℕ) : Type 0 where
+pub record WrittenSays (file : List ℕ) (room bytes count size : ℕ) : Type 0 where
   pub grant : GrantSays file room count
   pub fits : length (proofText (grant .is-proof)) ≤ bytes
-  pub counted : written ≡ length (proofText (grant .is-proof))
+  pub counted : size ≡ length (proofText (grant .is-proof))
 
 abbrev pub WrittenExactly : Type 0
 WrittenExactly =
-    (file : List ℕ) (room bytes count written : ℕ)
-    → sentencesAnswer file room bytes ≡ Written count written ↔ WrittenSays file room bytes count written
+    (file : List ℕ) (room bytes count size : ℕ)
+    → sentencesAnswer file room bytes ≡ Written count size ↔ WrittenSays file room bytes count size
 
 -- "Refused: 16, after 15, the lent bytes are fewer than the whole text; place 0."
 abbrev pub sentencesOrder : List ℕ
 sentencesOrder = checkingOrder ++ (16 ∷ [])
 
--- A reason to refuse: one of the record's (record/specs/Reasons.antt), or 16.
+-- A reason to refuse: one of the record's (record/specs/Reasons.antt), or 16. There is a whole text where the words are
+-- a proof, and it is that of the derivation.
 pub data SentencesReason (file : List ℕ) (room bytes number p : ℕ) : Type 0 where
   of-record : Reason file room number p → SentencesReason file room bytes number p
-  text-short : number ≡ 16 → p ≡ 0 → bytes < length (recordText file) → SentencesReason file room bytes number p
+  text-short :
+      number ≡ 16 → p ≡ 0 → (proof : IsProof file) → bytes < length (proofText proof)
+      → SentencesReason file room bytes number p
 
 -- Every other file is refused by the first reason in the order that applies, with its place.
 abbrev pub RefusedExactly : Type 0
 RefusedExactly =
     (file : List ℕ) (room bytes number p : ℕ)
-    → sentencesAnswer file room bytes ≡ Refused number p ↔ FirstReason sentencesOrder (SentencesReason file room bytes) number p
+    → sentencesAnswer file room bytes ≡ Refused number p
+    ↔ FirstReason sentencesOrder (SentencesReason file room bytes) number p
 
 -- How large an answer can be, where so many bytes are lent.
 abbrev pub Small : ℕ → SentencesVerdict → Type 0
-Small bytes (Written count written) = (count ≤ mostStatements) × (written ≤ bytes)
+Small bytes (Written count size) = (count ≤ mostStatements) × (size ≤ bytes)
 Small bytes (Refused number p) = (1 ≤ number) × (number ≤ 16) × (p ≤ mostSteps)
 
 abbrev pub AnswersSmall : Type 0

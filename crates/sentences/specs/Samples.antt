@@ -6,14 +6,10 @@ use mathlib.Core.List.{List, [], _∷_, map}
 use lib.ListN.{replicate}
 use Rattle.text.specs.Ascii.{ascii}
 use Rattle.file.specs.Words.{fileOf}
-use Rattle.record.specs.Samples.{overT}
+use Rattle.record.specs.Samples.{overT, bytesOfA}
 use Rattle.sentences.specs.declared.verdict.SentencesVerdict.{SentencesVerdict}
 use Rattle.sentences.specs.declared.verdict.SentencesVerdict.the-variants.{Written, Refused}
 use Rattle.sentences.specs.Answer.{recordText, sentencesAnswer, signersAfter, textAfter}
-
--- Record A, as 01 writes it out
-abbrev pub A : List ℕ
-A = fileOf (2 ∷ 1 ∷ 4 ∷ 1 ∷ 0 ∷ 20487 ∷ 0 ∷ 0 ∷ 1 ∷ 40960 ∷ 45057 ∷ 4096 ∷ 0 ∷ [])
 
 -- "Record A gives `0 says right for (p7 says a0)`, `1 says left (p7 says a0) for p7 affirms a0`, `2 affirm for p7
 -- affirms a0`, `3 init a0 for a0`, each ended by a line feed." (02)
@@ -25,10 +21,16 @@ textOfA =
     then "3 init a0 for a0\n"
 
 abbrev pub TextOfA : Type 0
-TextOfA = recordText A ≡ ascii textOfA
+TextOfA = recordText bytesOfA ≡ ascii textOfA
 
--- Each rule once, under its name; atoms and principals are such that no two operands, no two premises and no two names
--- can change places. Statement: (p7 says (a1 implies a4)).
+-- "whichever numbers the tables use": A's proof over the table atom 5, atom 0, 7 says entry 1, which has A's text
+abbrev pub OtherNumbers : Type 0
+OtherNumbers =
+    recordText (fileOf (3 ∷ 1 ∷ 4 ∷ 2 ∷ 5 ∷ 0 ∷ 20487 ∷ 0 ∷ 0 ∷ 1 ∷ 2 ∷ 40960 ∷ 45058 ∷ 4096 ∷ 1 ∷ []))
+    ≡ ascii textOfA
+
+-- Every rule, under its name; the atoms are such that no two operands, no two premises and no two names can change
+-- places. Statement: (p7 says (a1 implies a4)).
 abbrev pub everyRule : List ℕ
 everyRule =
     fileOf
@@ -62,15 +64,15 @@ TextOfEveryRule = recordText everyRule ≡ ascii textOfEveryRule
 -- and H with no room at all, 14 and 15.
 abbrev pub Answers : Type 0
 Answers =
-    (map (sentencesAnswer A 256) (117 ∷ 116 ∷ 0 ∷ []) ≡ Written 1 117 ∷ Refused 16 0 ∷ Refused 16 0 ∷ [])
-    × (map (λ bytes. sentencesAnswer A 0 bytes) (117 ∷ 116 ∷ []) ≡ Refused 8 0 ∷ Refused 8 0 ∷ [])
+    (map (sentencesAnswer bytesOfA 256) (117 ∷ 116 ∷ 0 ∷ []) ≡ Written 1 117 ∷ Refused 16 0 ∷ Refused 16 0 ∷ [])
+    × (map (λ bytes. sentencesAnswer bytesOfA 0 bytes) (117 ∷ 116 ∷ []) ≡ Refused 8 0 ∷ Refused 8 0 ∷ [])
     × (sentencesAnswer (fileOf (overT (2 ∷ []) 1 (40960 ∷ 45058 ∷ []))) 256 0 ≡ Refused 14 1)
     × (sentencesAnswer (fileOf (overT (0 ∷ []) 1 (40960 ∷ 4096 ∷ 0 ∷ 0 ∷ []))) 256 0 ≡ Refused 15 3)
 
 -- A's signer and text stand at the start of what is lent, and what follows stays; after a refusal all stays.
-abbrev pub Left : Type 0
-Left =
-    (signersAfter A (Written 1 117) (9 ∷ 8 ∷ []) ≡ 7 ∷ 8 ∷ [])
-    × (textAfter A (Written 1 117) (replicate 119 46) ≡ ascii (textOfA then ".."))
-    × (signersAfter A (Refused 16 0) (9 ∷ 8 ∷ []) ≡ 9 ∷ 8 ∷ [])
-    × (textAfter A (Refused 16 0) (46 ∷ 46 ∷ []) ≡ 46 ∷ 46 ∷ [])
+abbrev pub LentAfter : Type 0
+LentAfter =
+    (signersAfter bytesOfA (Written 1 117) (9 ∷ 8 ∷ []) ≡ 7 ∷ 8 ∷ [])
+    × (textAfter bytesOfA (Written 1 117) (replicate 119 46) ≡ ascii (textOfA then ".."))
+    × (signersAfter bytesOfA (Refused 16 0) (9 ∷ 8 ∷ []) ≡ 9 ∷ 8 ∷ [])
+    × (textAfter bytesOfA (Refused 16 0) (46 ∷ 46 ∷ []) ≡ 46 ∷ 46 ∷ [])
