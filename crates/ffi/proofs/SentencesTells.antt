@@ -10,7 +10,7 @@ use Rattle.sentences.specs.declared.verdict.SentencesVerdict.{SentencesVerdict}
 use Rattle.sentences.specs.declared.verdict.SentencesVerdict.the-variants.{Written, Refused}
 use Rattle.sentences.specs.Promises.{Small}
 use Rattle.ffi.specs.RefusalCode.{refusalCode}
-use Rattle.ffi.specs.SentencesCode.{sentencesCode, countAfter, PlaceWithin, SentencesCodeHalves, SentencesCodeTells}
+use Rattle.ffi.specs.SentencesCode.{sentencesCode, countAfter, PlaceWithin, SentencesCodeHalves, CodeOfA, SentencesCodeTells}
 use Rattle.ffi.proofs.Refusals.{refusal-halves, refusal-above, refusal-tells}
 
 -- Where a text was written,
@@ -41,6 +41,10 @@ pub sentences-code-halves : SentencesCodeHalves
 unfolding sentencesCode
 sentences-code-halves room (Written count bytes) (few, fits) = (omega (arith, few), omega (arith, few))
 sentences-code-halves room (Refused number place) (some, few, within) = refusal-halves number place some within
+
+pub code-of-a : CodeOfA
+unfolding sentencesCode set
+code-of-a = (refl, refl)
 
 pub sentences-code-tells : SentencesCodeTells
 unfolding sentencesCode set

@@ -1,6 +1,6 @@
--- The answer of a call that writes sentences, for callers in C and Rust: as one number the count of signers, or a refusal
--- as `refusalCode` has it; and the count of bytes in words that are lent for it. Proved in proofs/SentencesTells.antt.
--- Assumes nothing.
+-- The answer of a call that writes sentences, for callers in C and Rust: as one number the count of signers, or a
+-- refusal as `refusalCode` has it; and the count of bytes in words that are lent for it. Proved in
+-- proofs/SentencesTells.antt. Assumes nothing.
 use Prim.Native.Nat.{ℕ, _≤_, _/_, _%_}
 use mathlib.Core.Path.{_≡_}
 use mathlib.Core.List.{List, [], _∷_}
@@ -33,10 +33,15 @@ SentencesHalves (Refused number place) high low = RefusalHalves number place hig
 
 abbrev pub SentencesCodeHalves : Type 0
 SentencesCodeHalves =
-    (room : ℕ) (v : SentencesVerdict) → Small room v → SentencesHalves v (sentencesCode v / half) (sentencesCode v % half)
+    (room : ℕ) (v : SentencesVerdict) → Small room v
+    → SentencesHalves v (sentencesCode v / half) (sentencesCode v % half)
 
--- Two answers within their bounds that have the same number and leave the same in a word lent for the count of bytes are
--- the same answer.
+-- Record A's answer, one signer and 117 bytes: 1, and 117 in the first of two words.
+abbrev pub CodeOfA : Type 0
+CodeOfA = (sentencesCode (Written 1 117) ≡ 1) × (countAfter (Written 1 117) (0 ∷ 9 ∷ []) ≡ 117 ∷ 9 ∷ [])
+
+-- Two answers within their bounds that have the same number and leave the same in a word lent for the count of bytes
+-- are the same answer.
 abbrev pub SentencesCodeTells : Type 0
 SentencesCodeTells =
     (room : ℕ) (v w : SentencesVerdict) → Small room v → Small room w

@@ -1,6 +1,6 @@
--- Lengths that stop growing. A formula's text can have 2 to the 4,000 bytes, and no slice has as many as `tooLong`: so
--- what is that long or longer is told apart from nothing that a caller can lend. Proved in proofs/Lengths.antt. Assumes
--- nothing.
+-- Lengths that stop growing. A formula's text can have 2 to the 4,000 bytes. No slice has as many as `tooLong`, so no
+-- caller can lend enough for a text that long, and its true length changes no answer. Proved in proofs/Lengths.antt.
+-- Assumes nothing.
 use Prim.Native.Nat.{ℕ, _<_, min}
 use mathlib.Core.Path.{_≡_}
 use mathlib.Core.List.{List, map}
@@ -30,6 +30,6 @@ lengthsOf es = map lengthOf (spelled es)
 abbrev pub Holds : List Entry → List ℕ → Type 0
 Holds es ls = take (length es) ls ≡ lengthsOf es
 
--- Fewer bytes than so many are fewer than the true length exactly when they are fewer than the capped one.
+-- A room below `tooLong` is below the true length exactly when it is below the capped one.
 abbrev pub CappedBelow : Type 0
 CappedBelow = (room n : ℕ) → room < tooLong → ltb room (capped n) ≡ ltb room n

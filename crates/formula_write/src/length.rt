@@ -30,8 +30,8 @@ pub fn sum(a: usize, b: usize) -> usize
     a + b
 }
 
-// The length of a formula's text, where those of the propositions that are made are at hand. Where there is none, as
-// `false` has.
+// The length of a number's text, where `lengths` has those of the propositions that are made; for a number that has
+// none it is that of `false`.
 pub fn formula_length(lengths: &[usize], n: u16) -> usize
     ensures { λ r. ⌜ ((made : List Proposition) → now (lengths .entry) ≡ map lengthOf made → r ≡ lengthOf (among made n)) ⌝ }
 {
@@ -49,8 +49,8 @@ pub fn principal_length(k: Principal) -> usize
     sum(1, decimal_length(k.0 as usize))
 }
 
-// The length of an entry's text. Brackets and the kind's word have 11 bytes for implies, 7 for and, 6 for or, 8 for
-// says.
+// The length of an entry's text. The brackets, the kind's word and the blanks beside it have 11 bytes for implies, 7
+// for and, 6 for or, 8 for says.
 fn entry_length(lengths: &[usize], entry: Entry) -> usize
     ensures { λ r. ⌜ ((made : List Proposition) → now (lengths .entry) ≡ map lengthOf made → r ≡ lengthOf (proposition made entry)) ⌝ }
 {

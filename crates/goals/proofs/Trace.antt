@@ -39,7 +39,7 @@ use Rattle.steps.proofs.Figure1.{line-per-word}
 use Rattle.rules.specs.Tested.{tested}
 use Rattle.goals.specs.declared.kept.Kept.{Kept}
 use Rattle.goals.specs.Kept.{affirmedBy, goalAt, lineAt, linesAt}
-use Rattle.goals.specs.Goals.{kept, goalOf, keptAs, premisesKept, opensFreely, goalsFrom, numbersOf, affirmsOf, goalsOf, GoalPerStep, GoalsOfTrace, GoalsWritten}
+use Rattle.goals.specs.Goals.{kept, goalKept, keptAs, premisesKept, opensFreely, goalsFrom, numbersOf, affirmsOf, goalsOf, GoalPerStep, GoalsOfTrace, GoalsWritten}
 
 -- ---- what is kept of a goal
 
@@ -65,7 +65,7 @@ module _ (es : List Entry) where
       (λ t e. ap (λ (h : Formula). h .0) (truth-of n f (entryAt es n) e))
 
   -- and the goal itself, where a premise has it too, as before.
-  same-goal : (k : Kept) (g : Goal) → goalOf es k ≡ g → goalOf es (keptAs (k .number) g) ≡ g
+  same-goal : (k : Kept) (g : Goal) → goalKept es k ≡ g → goalKept es (keptAs (k .number) g) ≡ g
   same-goal k (True f) = λ e. refl
   same-goal k (Affirms l f) =
       pick-cases (λ g. g ≡ Affirms l f → goalAt es (k .number) 1 ≡ Affirms l f) (eqb (k .affirms) 0)
@@ -73,8 +73,8 @@ module _ (es : List Entry) where
       (λ t e. e)
 
   -- The affirmation of code 10's premise is the one that its goal stands for.
-  affirmation : (k : Kept) {f a : Formula} {l : Principal} → goalOf es k ≡ True f → entryAt es (f .0) ≡ Says l a
-      → goalOf es (keptAs (k .number) (Affirms l a)) ≡ Affirms l a
+  affirmation : (k : Kept) {f a : Formula} {l : Principal} → goalKept es k ≡ True f → entryAt es (f .0) ≡ Says l a
+      → goalKept es (keptAs (k .number) (Affirms l a)) ≡ Affirms l a
   affirmation k {f} is e = rw (truth-number (k .number) (k .affirms) f is, e)
 
   -- ---- a step
@@ -84,13 +84,13 @@ module _ (es : List Entry) where
   Keeps [] [] = Unit {0}
   Keeps [] (o ∷ os) = ⊥
   Keeps (k ∷ ks) [] = ⊥
-  Keeps (k ∷ ks) (o ∷ os) = (goalOf es k ≡ o .goal) × ((length ks < o .depth) × Keeps ks os)
+  Keeps (k ∷ ks) (o ∷ os) = (goalKept es k ≡ o .goal) × ((length ks < o .depth) × Keeps ks os)
 
   module _ (k : Kept) (ks : List Kept) (o : Obligation) (os : List Obligation)
       (less : length ks < o .depth) (h : Keeps ks os) where
     -- So it is with the premises of a rule in the place of its conclusion,
     premises-keep : {hs : List ℕ} {c n : ℕ} {g : Goal} {ps : List Premise} → Applies same es hs c n g ps
-        → goalOf es k ≡ g
+        → goalKept es k ≡ g
         → Keeps (premisesKept (k .number) ps ++ ks) (map (under o) ps ++ os)
     premises-keep (init m e) is = h
     premises-keep affirm is = (refl, (omega arith, h))
@@ -129,13 +129,13 @@ module _ (es : List Entry) where
 
   -- The goal of a step, and then those of its premises.
   goals-next : (w : ℕ) (ws : List ℕ) (k : Kept) (ks : List Kept) (ps : List Premise) → length ks ≤ mostDepth
-      → premises (opensFreely es w (goalOf es k)) ≡ some ps
+      → premises (opensFreely es w (goalKept es k)) ≡ some ps
       → goalsFrom es (w ∷ ws) (k ∷ ks) ≡ k ∷ goalsFrom es ws (premisesKept (k .number) ps ++ ks)
   unfolding goalsFrom
   goals-next w ws k ks ps few e =
       let next : List Premise → List Kept = λ ps. goalsFrom es ws (premisesKept (k .number) ps ++ ks) in
       rw (le-leb (length ks) mostDepth few)
-      (ap (λ (gs : List Kept). k ∷ gs) (after-opens (opensFreely es w (goalOf es k)) ps (λ number. []) next e))
+      (ap (λ (gs : List Kept). k ∷ gs) (after-opens (opensFreely es w (goalKept es k)) ps (λ number. []) next e))
 
   walk-lines : (ws : List ℕ) (p q : ℕ) (ks : List Kept) (os : List Obligation) → Keeps es ks os
       → walk same mostDepth es ws p os ≡ Closed q → linesOf ws (goalsFrom es ws ks) ≡ trace same mostDepth es ws os
@@ -148,7 +148,7 @@ module _ (es : List Entry) where
       let (ps, takes, closes) = walk-closed same mostDepth es w ws p q o os e in
       let fits = takes .fits in
       let row = opens-row es (takes .applies) in
-      let opens : premises (opensFreely es w (goalOf es k)) ≡ some ps = rw is row in
+      let opens : premises (opensFreely es w (goalKept es k)) ≡ some ps = rw is row in
       let keeps = premises-keep es k ks o os less h (takes .applies) is in
       let next : List Premise → List Line = λ ps. trace same mostDepth es ws (map (under o) ps ++ os) in
       let steps = step-opens same mostDepth es w o ps .1 takes in
@@ -179,9 +179,9 @@ module _ (es : List Entry) where
   goals-most (w ∷ ws) [] = omega arith
   goals-most (w ∷ ws) (k ∷ ks) =
       let next : List Premise → List Kept = λ ps. goalsFrom es ws (premisesKept (k .number) ps ++ ks) in
-      let most = after-most (opensFreely es w (goalOf es k)) next (length ws) (λ ps. goals-most ws _) in
+      let most = after-most (opensFreely es w (goalKept es k)) next (length ws) (λ ps. goals-most ws _) in
       pick-cases (λ (gs : List Kept). length gs ≤ suc (length ws)) (leb (length ks) mostDepth)
-      {a = k ∷ after (opensFreely es w (goalOf es k)) (λ number. []) next} {b = []} (λ t. omega arith) (λ t. omega arith)
+      {a = k ∷ after (opensFreely es w (goalKept es k)) (λ number. []) next} {b = []} (λ t. omega arith) (λ t. omega arith)
 
   lines-most : (ws ns bs : List ℕ) → length (linesAt es ws ns bs) ≤ length ns
   unfolding linesAt

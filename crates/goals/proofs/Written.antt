@@ -22,7 +22,7 @@ use Rattle.steps.specs.Figure1.{same}
 use Rattle.rules.specs.Tested.{tested}
 use Rattle.goals.specs.declared.kept.Kept.{Kept}
 use Rattle.goals.specs.Kept.{goalAt}
-use Rattle.goals.specs.Goals.{kept, goalOf, premisesKept, opensFreely, goalsFrom, goalsOf, numbersOf, affirmsOf}
+use Rattle.goals.specs.Goals.{kept, goalKept, premisesKept, opensFreely, goalsFrom, goalsOf, numbersOf, affirmsOf}
 use Rattle.goals.specs.Next.{isRefused, countOf, firstKept, lastKept}
 use Rattle.goals.proofs.Stack.{waiting, waiting-length, pushed, popped}
 
@@ -102,7 +102,7 @@ module _ (es : List Entry) where
 
   -- The goal of the step at i, and then what it opens.
   pub turn : (steps : List ℕ) (i : ℕ) (k : Kept) (ks : List Kept) {x : O.Opened} → i < length steps
-      → length ks ≤ mostDepth → x ≡ opensFreely es (getD steps i 0) (goalOf es k)
+      → length ks ≤ mostDepth → x ≡ opensFreely es (getD steps i 0) (goalKept es k)
       → goalsFrom es (drop i steps) (k ∷ ks) ≡ k ∷ onward x (k .number) (drop (i + 1) steps) ks
   unfolding goalsFrom
   turn steps i k ks l few is = rw (drop-cons steps i 0 l, le-leb (length ks) mostDepth few, is, add-one i)

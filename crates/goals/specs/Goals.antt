@@ -1,5 +1,5 @@
--- The goal of each step of a proof, found from the steps alone once they have passed their tests: no hypotheses are
--- looked up again. Proved in proofs/Trace.antt. Assumes nothing.
+-- The goal of each step of a proof, found from the table, the goal and the steps once these have passed their tests: no
+-- hypotheses are looked up again. Proved in proofs/Trace.antt. Assumes nothing.
 use Prim.Native.Nat.{ℕ, _≤_}
 use mathlib.Core.Bool.{true}
 use mathlib.Core.Path.{_≡_}
@@ -28,8 +28,8 @@ use Rattle.goals.specs.Kept.{goalAt, linesAt}
 abbrev pub kept : ℕ → ℕ → Kept
 kept number affirms = record { number = number; affirms = affirms }
 
-abbrev pub goalOf : List Entry → Kept → Goal
-goalOf es k = goalAt es (k .number) (k .affirms)
+abbrev pub goalKept : List Entry → Kept → Goal
+goalKept es k = goalAt es (k .number) (k .affirms)
 
 -- How a premise's goal is kept, where n is the number that its conclusion's goal is kept by. An affirmation is kept by
 -- the same number: it is the conclusion's own, or the conclusion is the truth of K says A and it is K affirms A (code
@@ -41,19 +41,19 @@ keptAs n (Affirms k f) = kept n 1
 abbrev pub premisesKept : ℕ → List Premise → List Kept
 premisesKept n ps = map (λ p. keptAs n (p .goal)) ps
 
--- What a step word opens for a goal where every formula counts as a hypothesis: tests 11, 13 and 14.
+-- What a step word opens for a goal where every number counts as a hypothesis, F or more too: tests 11, 13 and 14.
 abbrev pub opensFreely : List Entry → ℕ → Goal → Opened
 opensFreely es w g = tested (getD (rules same es) (upper w) unknown) true (lower w) g
 
--- The goal of each step, as it is kept, from the open goals, the next first: as far as a step opens premises, and as
--- far as no more goals wait behind the next one than a step may be deep, which is what the code has room for.
+-- The goal of each step, as it is kept, from the open goals, the next first: as far as the first step that is refused,
+-- and as far as no more goals wait behind the next one than a step may be deep, which is what the code has room for.
 unfoldable pub goalsFrom : List Entry → List ℕ → List Kept → List Kept
 goalsFrom es [] ks = []
 goalsFrom es (w ∷ ws) [] = []
 goalsFrom es (w ∷ ws) (k ∷ ks) =
     pick (leb (length ks) mostDepth)
     (k
-    ∷ after (opensFreely es w (goalOf es k)) (λ number. []) (λ ps. goalsFrom es ws (premisesKept (k .number) ps ++ ks)))
+    ∷ after (opensFreely es w (goalKept es k)) (λ number. []) (λ ps. goalsFrom es ws (premisesKept (k .number) ps ++ ks)))
     []
 
 -- of a proof of one goal

@@ -1,5 +1,5 @@
--- A goal kept in two words: the number of a formula and 0 for its truth; or the number of K says A and another word for
--- the affirmation of A by K. Assumes nothing.
+-- A goal kept in two words: the number of a formula and 0 for its truth; or the number of K says A and any word but 0
+-- for the affirmation of A by K. Assumes nothing.
 use Prim.Native.Nat.{ℕ}
 use mathlib.Core.List.{List, [], _∷_}
 use lib.ListN.{getD}
@@ -30,7 +30,7 @@ affirmedBy IllFormed g = g
 abbrev pub goalAt : List Entry → ℕ → ℕ → Goal
 goalAt es n affirms = pick (eqb affirms 0) (True (formula n)) (affirmedBy (entryAt es n) (True (formula n)))
 
--- the line of a step word at a goal: `lineOf` of the crate `steps`, which asks no more of an obligation
+-- the line of a step word at a goal: `lineOf` of the crate `steps`, which needs nothing of an obligation but its goal
 abbrev pub lineAt : List Entry → ℕ → Goal → Line
 lineAt es w g = line (upper w) (namedBy es (getD (rules same es) (upper w) unknown) (lower w)) (judgment es g)
 

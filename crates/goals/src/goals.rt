@@ -137,6 +137,7 @@ pub fn write_goals(
         put(affirms, i, affirm);
         let word = steps[i];
         let here = goal_at(heads, seconds, number, affirm);
+        // 12 has passed, so what the word names is held.
         let premises = apply(heads, seconds, true, upper(word), lower(word), here);
         if is_refused(premises) {
             return;

@@ -73,7 +73,8 @@ granted heads seconds statements = Granted (length (signers (entries heads secon
 -- 2 and 4 to 15
 abbrev pub arraysAnswer : List ℕ → List ℕ → List ℕ → ℕ → List ℕ → ℕ → RecordVerdict
 arraysAnswer heads seconds statements goal steps room =
-    unlessRefused Refused (firstRefusal (contentTests heads seconds statements goal steps room)) (granted heads seconds statements)
+    unlessRefused Refused (firstRefusal (contentTests heads seconds statements goal steps room))
+    (granted heads seconds statements)
 
 -- Over the arrays of a file that 1 to 3 let pass these are the record's own tests. Proved in proofs/Whole.antt.
 abbrev pub PartsOfRecord : Type 0

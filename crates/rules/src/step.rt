@@ -40,9 +40,10 @@ fn is_hypothesis(heads: &[u16], seconds: &[u16], slots: &[u16], n: u16) -> bool
     is_entry(heads, seconds, n) && is_held(slots, n)
 }
 
-// The rule of a code, in 01's order, where 12 is answered: its caller says whether n is held, and is to say no of a
-// number of F or more (`TestedIsApplied`). "11. The code is 12 or more, or a rule that names nothing has a part other
-// than 0." What a rule answers by 13 or 14 counts only where 11 and 12 have passed.
+// The rule of a code, in 01's order, where 12 is answered: its caller says whether n is held. Who makes test 12 here
+// says no of a number of F or more (`TestedIsApplied`); where it has passed, yes is right. "11. The code is 12 or more,
+// or a rule that names nothing has a part other than 0." What a rule answers by 13 or 14 counts only where 11 and 12
+// have passed.
 pub fn apply(heads: &[u16], seconds: &[u16], held: bool, code: u16, n: u16, goal: Goal) -> Premises
     ensures { λ r. ⌜ opened goal r ≡ tested (getD (rules same (entries (now (heads .entry)) (now (seconds .entry)))) code unknown) held n goal ⌝ }
 {

@@ -1,5 +1,5 @@
--- What a call that writes a record's proof in sentences answers, for every file of any bytes and length and every length
--- of what is lent, and what it leaves there. Proved in proofs/Answer.antt. Assumes nothing.
+-- What a call that writes a record's proof in sentences answers, for every file of any bytes and length and every
+-- length of what is lent, and what it leaves there. Proved in proofs/Answer.antt. Assumes nothing.
 use Prim.Native.Nat.{ℕ}
 use mathlib.Core.Path.{_≡_}
 use mathlib.Core.List.{List, [], _∷_, _++_}

@@ -1,5 +1,5 @@
 -- What a call answers and leaves over a record's arrays, which `judge_contents` has tested: its parts of
--- `sentencesAnswer`, `signersAfter` and `textAfter` (sentences/specs/Answer.antt). For private functions. Assumes nothing.
+-- `sentencesAnswer`, `signersAfter` and `textAfter` (sentences/specs/Answer.antt). Assumes nothing.
 use Prim.Native.Nat.{ℕ}
 use mathlib.Core.List.{List, [], _∷_}
 use lib.ListN.{length}

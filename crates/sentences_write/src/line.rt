@@ -73,7 +73,7 @@ fn fill_goal(heads: &[u16], seconds: &[u16], goal: Goal, text: &mut [u8], at: us
     }
 }
 
-// The line of step i, where its word stands at the goal.
+// The line of step i, for this word at this goal.
 pub(crate) fn fill_line(
     heads: &[u16],
     seconds: &[u16],

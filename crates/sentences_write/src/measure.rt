@@ -58,7 +58,7 @@ fn line_length(lengths: &[usize], i: usize, word: u16, goal: Goal) -> usize
     sum(all, goal_length(lengths, goal))
 }
 
-// All lines, where the lengths of the table's formulas are at hand and nothing else.
+// All lines, where `lengths` has those of the table's formulas and no more.
 fn lines_length(
     heads: &[u16],
     seconds: &[u16],

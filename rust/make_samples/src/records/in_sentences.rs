@@ -6,38 +6,42 @@ use builder::steps::*;
 use builder::table::Entry::{And, Atom, False, Implies, Or, Says};
 use builder::table::Table;
 
-/// A proof with each of the twelve rules.
+/// A proof with each of the twelve rules: `everyRule` of `crates/sentences/specs/Samples.antt`,
+/// whose text is proved there.
 fn every_rule() -> Record {
     let mut table = Table::default();
     let [a0, a1, a2, a3, a4] = [0, 1, 2, 3, 4].map(|atom| table.number(Atom(atom)));
     let falsehood = table.number(False);
-    let either = table.number(Or(a0, falsehood));
-    let paper = table.number(Says(7, either));
-    let both = table.number(And(a1, a2));
-    let order = table.number(Implies(a0, both));
-    let [first, second] = [Or(a2, a4), Or(a4, a3)].map(|entry| table.number(entry));
-    let claim = table.number(And(first, second));
-    let said = table.number(Says(7, claim));
-    let goal = table.number(Implies(a3, said));
+    let either = table.number(Or(a1, falsehood));
+    let assumed = table.number(And(a0, either));
+    let a0_or_a2 = table.number(Or(a0, a2));
+    let a3_or_a1 = table.number(Or(a3, a1));
+    let said = table.number(Says(7, a3_or_a1));
+    let claim = table.number(And(a0_or_a2, said));
+    let rule = table.number(Implies(a1, a4));
+    let paper = table.number(Says(7, rule));
+    let goal = table.number(Implies(assumed, claim));
     let steps = [
         IMPLIES_RIGHT,
+        AND_LEFT + assumed,
+        AND_RIGHT,
+        // a0 or a2
+        OR_RIGHT_FIRST,
+        INIT + a0,
+        // what p7 is to say
         SAYS_RIGHT,
         SAYS_LEFT + paper,
-        OR_LEFT + either,
-        // the case that a0 is true
-        IMPLIES_LEFT + order,
-        INIT + a0,
-        AND_LEFT + both,
         AFFIRM,
-        AND_RIGHT,
-        OR_RIGHT_FIRST,
-        INIT + a2,
+        OR_LEFT + either,
+        // the case that a1 is true
+        IMPLIES_LEFT + rule,
+        INIT + a1,
         OR_RIGHT_SECOND,
-        INIT + a3,
+        INIT + a1,
         // the case that false is
         FALSE_LEFT + falsehood,
     ];
-    record(&table, &[paper, order], goal, &steps)
+    record(&table, &[paper], goal, &steps)
 }
 
 /// Formulas within formulas in which no two operands are the same, and the goal the other way
@@ -98,8 +102,8 @@ pub fn in_sentences() -> Section<Record> {
         samples: vec![
             sample(
                 "every-rule",
-                "Each of the twelve rules, over a paper of p7 and an order: the sentences have \
-                 every rule's name.",
+                "Each of the twelve rules, over a paper of p7: the sentences have every rule's \
+                 name. `docs/SENTENCES.md` reads them aloud.",
                 every_rule(),
                 "granted 1 7",
             ),
