@@ -98,7 +98,7 @@ static inline uint64_t wethrynda_exchange(const uint8_t *file, size_t file_lengt
  * - The file has `file_length` bytes that may be read; the list, the text and the count, which are lent for the call,
  *   have so many words, bytes and numbers that may be read and written. No two of the four overlap, and no other thread
  *   changes any of them until the call is over. (Calls may run at the same time on lists and texts of their own.)
- * - The thread has about 1 MB of stack left: a proof may be 512 steps deep, and a formula 4,096 operands.
+ * - The thread has about 800 KB of stack left: a formula may be 4,095 operands deep, and the writer goes down with it.
  */
 uint64_t wethrynda_write_sentences(const uint8_t *file, size_t file_length, uint16_t *signers, size_t signers_length,
                                    uint8_t *text, size_t text_length, uint64_t *written, size_t written_length);
