@@ -1,6 +1,6 @@
 #!/bin/sh
-# Tests from outside, on files made here and on the samples: the programs check_record and check_exchange, then
-# ./wethrynda, then ./wethrynda alone with a toolchain and a checker that only pretend. Each check that fails says what
+# Tests from outside, on files made here and on the samples: the programs check_record, check_exchange and
+# print_sentences, then ./wethrynda, then ./wethrynda alone with a toolchain and a checker that only pretend. Each check that fails says what
 # was expected and what came, and then the status is 1.
 set -u
 
@@ -78,11 +78,18 @@ done
 # The first call of each may have to build, and says so; from then on the checkers are there.
 "$script" record "$room/A" >/dev/null 2>"$room/err" || complain 'first call, record' 'status 0' "$(cat "$room/err")"
 "$script" exchange "$room/K" >/dev/null 2>"$room/err" || complain 'first call, exchange' 'status 0' "$(cat "$room/err")"
+"$script" sentences "$room/A" >/dev/null 2>"$room/err" || complain 'first call, sentences' 'status 0' "$(cat "$room/err")"
 
 # The same for each kind of file: a right one and its line, a refused one with its line and what is said of it, and the
 # longest.
-both() { # KIND RIGHT LINE REFUSED LINE TEXT
-    program=$programs/check_$1 longest=$room/longest-$1
+both() { # KIND PROGRAM FILES RIGHT LINE REFUSED LINE TEXT
+    kind=$1 name=$2 program=$programs/$2 longest=$room/longest-$3
+    case $name in
+    print_sentences) written=text ;;
+    *) written=line ;;
+    esac
+    shift 3
+    set -- "$kind" "$@"
     check "program: $2" 0 "$3" '' "$program" <"$room/$2"
     check "program: $4" 0 "$5" '' "$program" <"$room/$4"
     check "program: no bytes, $1" 0 'refused 1 place 0' '' "$program" <"$room/empty"
@@ -100,11 +107,11 @@ both() { # KIND RIGHT LINE REFUSED LINE TEXT
         dd if="$room/$2" bs=1 skip=15 2>/dev/null
     } | check "program: $2 in pieces" 0 "$3" '' "$program"
     { cat "$longest" && sleep 1 && zeros 1; } | check "program: a byte after a pause, $1" 0 'refused 3 place 0' '' "$program"
-    check "program: closed input, $1" 0 '' "check_$1: standard input can't be read" "$program" <&-
-    check "program: a folder, $1" 0 '' "check_$1: standard input can't be read" "$program" <"$room"
+    check "program: closed input, $1" 0 '' "$name: standard input can't be read" "$program" <&-
+    check "program: a folder, $1" 0 '' "$name: standard input can't be read" "$program" <"$room"
     if [ -c /dev/full ]; then
         # shellcheck disable=SC2016 # for the inner shell
-        check "program: full output, $1" 0 '' "check_$1: the line can't be written" sh -c '"$1" >/dev/full' sh "$program" <"$room/$2"
+        check "program: full output, $1" 0 '' "$name: the $written can't be written" sh -c '"$1" >/dev/full' sh "$program" <"$room/$2"
     fi
 
     check "script: $2" 0 "$3" '' "$script" "$1" "$room/$2"
@@ -118,7 +125,6 @@ both() { # KIND RIGHT LINE REFUSED LINE TEXT
     check "script: closed input, $1" 2 '' "standard input can't be read" "$script" "$1" - <&-
     check "script: a folder as input, $1" 2 '' "standard input can't be read" "$script" "$1" - <"$room"
     check "script: no file named, $1" 2 '' 'usage:' "$script" "$1"
-    check "script: two files, $1" 2 '' 'usage:' "$script" "$1" "$room/$2" "$room/$2"
     if [ "$(id -u)" -ne 0 ]; then
         cp "$room/$2" "$room/closed" && chmod 000 "$room/closed"
         check "script: unreadable, $1" 2 '' "can't be read" "$script" "$1" "$room/closed"
@@ -129,8 +135,26 @@ both() { # KIND RIGHT LINE REFUSED LINE TEXT
         check "script: full output, $1" 2 '' ' ' sh -c '"$1" "$2" "$3" >/dev/full' sh "$script" "$1" "$room/$2"
     fi
 }
-both record A 'granted 1 7' C 'refused 14 place 0' 'affirmation by that same principal'
-both exchange K 'equal' L 'refused 12 place 0' "isn't among the hypotheses there"
+both record check_record record A 'granted 1 7' C 'refused 14 place 0' 'affirmation by that same principal'
+both exchange check_exchange exchange K 'equal' L 'refused 12 place 0' "isn't among the hypotheses there"
+check 'script: two files, record' 2 '' 'usage:' "$script" record "$room/A" "$room/A"
+check 'script: two files, exchange' 2 '' 'usage:' "$script" exchange "$room/K" "$room/K"
+
+# Sentences: as for a record, with the text for the line. Of several files each has its text or its line, and the status
+# is the highest.
+proof='0 says right for (p7 says a0)
+1 says left (p7 says a0) for p7 affirms a0
+2 affirm for p7 affirms a0
+3 init a0 for a0'
+both sentences print_sentences record A "$proof" C 'refused 14 place 0' 'affirmation by that same principal'
+check 'script: sentences of two files' 0 "$proof$newline$proof" '' "$script" sentences "$room/A" "$room/A"
+check 'script: sentences of a refused file first' 1 "refused 14 place 0$newline$proof" 'same principal' "$script" sentences "$room/C" "$room/A"
+check 'script: sentences of a refused file last' 1 "$proof${newline}refused 14 place 0" 'same principal' "$script" sentences "$room/A" "$room/C"
+check 'script: sentences of a file that is missing' 2 '' 'there is no file' "$script" sentences "$room/A" "$room/missing"
+for stored in samples/*.sentences; do
+    check "sample: $stored" 0 "$(cat "$stored")" '' "$script" sentences "${stored%.sentences}.record"
+done
+check 'sample: a text that is too long' 1 'refused 16 place 0' 'more bytes than there is room for' "$script" sentences samples/doubled-40-times.record
 check 'program: 256 signers' 0 "$all" '' "$programs/check_record" <"$room/signed"
 check 'script: 256 signers' 0 "$all" '' "$script" record "$room/signed"
 check 'script: no words' 2 '' 'usage:' "$script"
@@ -191,7 +215,9 @@ pretend() { # KIND WHAT STATUS LINE TEXT
     check "script alone, $1: $2" "$3" "$4" "$5" env PATH="$room/pretended:$PATH" "$script" "$1" "$room/A"
 }
 
-built() { # KIND LINE
+built() { # KIND PROGRAM LINE
+    built=$2
+    set -- "$1" "$3"
     tell 0 0 "$2"
     check "script alone, $1: no toolchain" 2 '' 'toolchain' env PATH="$room/no rt" "$script" "$1" "$room/A"
     tell 1 0 "$2"
@@ -204,15 +230,16 @@ built() { # KIND LINE
     sleep 1
     touch "$source"
     pretend "$1" 'a source that is younger' 0 "$2" 'building the checker'
-    rm "$room/a repository/target/bin/check_$1"
+    rm "$room/a repository/target/bin/$built"
     pretend "$1" 'a program that is missing' 0 "$2" 'building the checker'
-    calls=$(grep -cx "check check_$1" "$told.calls")
+    calls=$(grep -cx "check $built" "$told.calls")
     [ "$calls" -eq 5 ] || complain "script alone, $1: calls of rt" 5 "$calls"
     tell 0 3 "$2"
     pretend "$1" 'a checker that fails' 2 '' 'wethrynda:'
 }
-built record 'granted 1 7'
-built exchange 'equal'
+built record check_record 'granted 1 7'
+built exchange check_exchange 'equal'
+built sentences print_sentences "$proof"
 # the younger source was not built into the first program
 tell 0 0 'granted 1 7'
 pretend record 'a source that is younger, again' 0 'granted 1 7' 'building the checker'
@@ -235,6 +262,17 @@ known record 0 'granted 0'
 known record 0 'granted 2 7 8'
 known exchange 0 'equal'
 known exchange 1 'refused 9 place 16384'
+for number in 1 2 3 4 5 6 7 8 9 10 11 12 13 14 15 16; do
+    known sentences 1 "refused $number place 3"
+done
+known sentences 0 "$proof"
+known sentences 0 '0 init a0 for a0'
+# no text: a number left out, one that isn't the next, no goal, what no text has, a line that isn't of a text
+for line in 'init a0 for a0' '1 init a0 for a0' "0 affirm for a0${newline}2 init a0 for a0" '0 init a0' '0 init a0 for ' '0 Init a0 for a0' '0 init a0 for a0;' \
+    "0 init a0 for a0${newline}${newline}1 init a0 for a0" "0 init a0 for a0${newline}refused 3 place 0" "refused 3 place 0${newline}0 init a0 for a0" '0  for a0' \
+    'refused 17 place 0' 'refused 16 place' 'granted 1 7' 'equal' ''; do
+    known sentences 2 "$line"
+done
 # what neither of them prints
 for line in 'refused 0 place 0' 'refused 16 place 0' 'refused' 'refused 14' 'refused 14 place' 'refused 14 place x' 'refused 14 place 03' 'refused 014 place 3' \
     'refused 14 place 3 4' 'refused 14 place -3' 'refused 14 3' 'refused  14 place 3' 'refused 14 place 3 ' ' refused 14 place 3' 'Refused 14 place 3' 'place 3' \
