@@ -105,7 +105,7 @@ uint64_t wethrynda_write_sentences(const uint8_t *file, size_t file_length, uint
 
 /*
  * The same, where a null pointer with length 0 is right too, as in wethrynda_record. The number of bytes goes into
- * *written, which is not changed where the record is refused; `written` may be null where nobody wants the number.
+ * *written, which a refusal leaves as it was; `written` may be null where nobody wants the number.
  */
 static inline uint64_t wethrynda_sentences(const uint8_t *file, size_t file_length, uint16_t *signers,
                                            size_t signers_length, uint8_t *text, size_t text_length,
@@ -120,7 +120,10 @@ static inline uint64_t wethrynda_sentences(const uint8_t *file, size_t file_leng
                                      written == NULL ? &unwanted : written, 1);
 }
 
-/* Of a record's answer, or that of its sentences: whether the record is granted; else it is refused. */
+/*
+ * Of a record's answer, or that of its sentences: whether it was granted; else it was refused. (Refused by 16, a record
+ * is granted, and its text is longer than what was lent.)
+ */
 static inline bool wethrynda_is_granted(uint64_t answer) { return answer >> 32 == 0; }
 
 /* Of a granted record: how many signers it has. */

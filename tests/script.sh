@@ -140,16 +140,19 @@ both exchange check_exchange exchange K 'equal' L 'refused 12 place 0' "isn't am
 check 'script: two files, record' 2 '' 'usage:' "$script" record "$room/A" "$room/A"
 check 'script: two files, exchange' 2 '' 'usage:' "$script" exchange "$room/K" "$room/K"
 
-# Sentences: as for a record, with the text for the line. Of several files each has its text or its line, and the status
-# is the highest.
+# Sentences: as for a record, with the text for the line. Of several files each has its name, and then its text or its
+# line, and the status is the highest.
 proof='0 says right for (p7 says a0)
 1 says left (p7 says a0) for p7 affirms a0
 2 affirm for p7 affirms a0
 3 init a0 for a0'
 both sentences print_sentences record A "$proof" C 'refused 14 place 0' 'affirmation by that same principal'
-check 'script: sentences of two files' 0 "$proof$newline$proof" '' "$script" sentences "$room/A" "$room/A"
-check 'script: sentences of a refused file first' 1 "refused 14 place 0$newline$proof" 'same principal' "$script" sentences "$room/C" "$room/A"
-check 'script: sentences of a refused file last' 1 "$proof${newline}refused 14 place 0" 'same principal' "$script" sentences "$room/A" "$room/C"
+check 'script: sentences of two files' 0 "$room/A:$newline$proof$newline-:$newline$proof" '' "$script" sentences "$room/A" - <"$room/A"
+check 'script: sentences of a refused file first' 1 "$room/C:${newline}refused 14 place 0$newline$room/A:$newline$proof" 'same principal' \
+    "$script" sentences "$room/C" "$room/A"
+check 'script: sentences of a refused file last' 1 "$room/A:$newline$proof$newline$room/C:${newline}refused 14 place 0" 'same principal' \
+    "$script" sentences "$room/A" "$room/C"
+check 'script: sentences of standard input twice' 2 '' 'usage:' "$script" sentences - - <"$room/A"
 check 'script: sentences of a file that is missing' 2 '' 'there is no file' "$script" sentences "$room/A" "$room/missing"
 for stored in samples/*.sentences; do
     check "sample: $stored" 0 "$(cat "$stored")" '' "$script" sentences "${stored%.sentences}.record"

@@ -1,4 +1,5 @@
--- The number of an answer about sentences (specs/SentencesCode.antt): what it is in each case, and that it tells answers
+-- The number of an answer about sentences (specs/SentencesCode.antt): what it is in each case, and that it tells
+-- answers
 -- apart. Assumes nothing.
 use Prim.Native.Nat.{ℕ, _≤_}
 use native.Mathlib.Omega.{arith}
@@ -30,7 +31,8 @@ refused-code before {v} {number} {place} {r} is answered = (
 )
 
 -- and a refusal's place is within its bound.
-pub refused-within : {v : SentencesVerdict} {number place : ℕ} → PlaceWithin v → v ≡ Refused number place → place ≤ mostSteps
+pub refused-within : {v : SentencesVerdict} {number place : ℕ} → PlaceWithin v → v ≡ Refused number place
+    → place ≤ mostSteps
 refused-within within is = subst PlaceWithin is within
 
 pub small-within : (room : ℕ) (v : SentencesVerdict) → Small room v → PlaceWithin v
@@ -54,6 +56,7 @@ sentences-code-tells room (Written count bytes) (Refused number′ place′) (fe
     absurd (omega (arith, few, refusal-above number′ place′ some′, same))
 sentences-code-tells room (Refused number place) (Written count′ bytes′) (some, few, within) (few′, fits′) same left =
     absurd (omega (arith, few′, refusal-above number place some, same))
-sentences-code-tells room (Refused number place) (Refused number′ place′) (some, few, within) (some′, few′, within′) same left =
+sentences-code-tells room (Refused number place) (Refused number′ place′) (some, few, within) (some′, few′, within′)
+    same left =
     let (same-number, same-place) = refusal-tells number place number′ place′ within within′ same in
     ap₂ (λ (n p : ℕ). Refused n p) same-number same-place

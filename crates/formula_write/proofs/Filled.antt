@@ -14,7 +14,8 @@ abbrev pub Filled : List ℕ → ℕ → List ℕ → List ℕ → ℕ → Type 
 Filled old p text out r = (out ≡ writtenAt old p text) × (r ≡ placeAfter old p text)
 
 -- Equal texts are written alike.
-pub filled-as : (old : List ℕ) (p : ℕ) {xs ys out : List ℕ} {r : ℕ} → xs ≡ ys → Filled old p xs out r → Filled old p ys out r
+pub filled-as : (old : List ℕ) (p : ℕ) {xs ys out : List ℕ} {r : ℕ} → xs ≡ ys → Filled old p xs out r
+    → Filled old p ys out r
 filled-as old p {out} {r} e f = subst (λ (l : List ℕ). Filled old p l out r) e f
 
 -- No text is written by leaving all as it is,

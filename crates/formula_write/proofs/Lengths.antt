@@ -37,18 +37,26 @@ pub length-then : (xs ys : List ℕ) {a b r : ℕ} → a ≡ capped (length xs) 
 length-then xs ys e f g = omega (arith, length-append xs ys)
 
 -- the same where the first is at hand as it is,
-pub length-after : (xs ys : List ℕ) {b r : ℕ} → b ≡ capped (length ys) → r ≡ capped (length xs + b) → r ≡ capped (length (xs ++ ys))
+pub length-after : (xs ys : List ℕ) {b r : ℕ} → b ≡ capped (length ys) → r ≡ capped (length xs + b) → r
+    ≡ capped (length (xs ++ ys))
 length-after xs ys e f = omega (arith, length-append xs ys)
 
 -- and where both are
-pub length-counted : (xs ys : List ℕ) {b r : ℕ} → b ≡ length ys → r ≡ capped (length xs + b) → r ≡ capped (length (xs ++ ys))
+pub length-counted : (xs ys : List ℕ) {b r : ℕ} → b ≡ length ys → r ≡ capped (length xs + b) → r
+    ≡ capped (length (xs ++ ys))
 length-counted xs ys e f = omega (arith, length-append xs ys)
 
 -- The length of a bracket, where k is that of its two round brackets and its word.
-brackets-long : (left word right : List ℕ) → length (inBrackets left word right) ≡ length word + 2 + (length left + length right)
+brackets-long : (left word right : List ℕ) → length (inBrackets left word right)
+    ≡ length word + 2 + (length left + length right)
 unfolding ascii
 brackets-long left word right =
-    omega (arith, length-append left (word ++ (right ++ ascii ")")), length-append word (right ++ ascii ")"), length-append right (ascii ")"))
+    omega (
+      arith,
+      length-append left (word ++ (right ++ ascii ")")),
+      length-append word (right ++ ascii ")"),
+      length-append right (ascii ")"),
+    )
 
 pub length-brackets : (left word right : List ℕ) (k : ℕ) {a b s r : ℕ} → k ≡ length word + 2
     → a ≡ capped (length left) → b ≡ capped (length right) → s ≡ capped (a + b) → r ≡ capped (k + s)
@@ -58,14 +66,16 @@ length-brackets left word right k e f g h i = rw (brackets-long left word right)
 -- ---- looked up
 
 -- The length of a number that has one,
-pub length-made : (ls : List ℕ) (n : ℕ) → n < length ls → (made : List Proposition) → ls ≡ map lengthOf made → getD ls n 0 ≡ lengthOf (among made n)
+pub length-made : (ls : List ℕ) (n : ℕ) → n < length ls → (made : List Proposition) → ls ≡ map lengthOf made
+    → getD ls n 0 ≡ lengthOf (among made n)
 length-made ls n l made e =
     sym (getD-at (take n ls) (getD ls n 0) (drop (suc n) ls) (lengthOf false) n (length-take-le n ls (omega arith)))
     ∙ ap (λ (r : List ℕ). getD r n (lengthOf false)) (sym (split-at ls n 0 l) ∙ e)
     ∙ List·getD-map lengthOf made n false
 
 -- and of one that has none.
-pub length-unmade : (ls : List ℕ) (n : ℕ) → length ls ≤ n → (made : List Proposition) → ls ≡ map lengthOf made → 5 ≡ lengthOf (among made n)
+pub length-unmade : (ls : List ℕ) (n : ℕ) → length ls ≤ n → (made : List Proposition) → ls ≡ map lengthOf made → 5
+    ≡ lengthOf (among made n)
 unfolding ascii propositionText lengthOf
 length-unmade ls n l made e =
     sym (ap lengthOf (List·getD-eq-default made false (omega (arith, ap (length {A = ℕ}) e, length-map made lengthOf))))
@@ -98,7 +108,8 @@ module _ {es : List Entry} {old out : List ℕ} {i : ℕ} (m : Measured es old o
       ∙ take-at new (drop (length new) old) i long
 
   -- then one more,
-  pub measured-more : (x : ℕ) → i < length es → i < length old → x ≡ lengthOf (proposition (spelled (take i es)) (entryAt es i))
+  pub measured-more : (x : ℕ) → i < length es → i < length old → x
+      ≡ lengthOf (proposition (spelled (take i es)) (entryAt es i))
       → Measured es old (set out i x) (i + 1)
   measured-more x l room e = record { done = stored; some = omega arith; within = omega arith }
     where
@@ -127,7 +138,8 @@ module _ {es : List Entry} {old out : List ℕ} {i : ℕ} (m : Measured es old o
       full l =
           let (rest, is) = spelled-front es i in
           m .done
-          ∙ sym (written-full old (map lengthOf (spelled (take i es))) (map lengthOf rest) (rw (count es i (m .some)) l))
+          ∙ sym (written-full old (map lengthOf (spelled (take i es))) (map lengthOf rest)
+          (rw (count es i (m .some)) l))
           ∙ ap (written old) (sym (map-append lengthOf (spelled (take i es)) rest) ∙ ap (map lengthOf) (sym is))
 
       ended : length es ≤ i → out ≡ written old (lengthsOf es)

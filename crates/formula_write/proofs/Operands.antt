@@ -29,7 +29,8 @@ pub filled-entry : (old : List ℕ) (p : ℕ) (es : List Entry) (n : ℕ) {e x :
     → Filled old p (propositionText (proposition (spelled (take n es)) x)) out r
     → Filled old p (propositionText (spell es n)) out r
 filled-entry old p es n is kind f =
-    filled-as old p (ap propositionText (sym (made-before es n ∙ ap (proposition (spelled (take n es))) (sym is ∙ kind)))) f
+    filled-as old p
+    (ap propositionText (sym (made-before es n ∙ ap (proposition (spelled (take n es))) (sym is ∙ kind)))) f
 
 -- A lower operand has the text of its number,
 pub filled-lower : (old : List ℕ) (p : ℕ) (es : List Entry) (n m : ℕ) {out : List ℕ} {r : ℕ} → m < n
@@ -72,7 +73,8 @@ no-right es n e h = no-part (rightText es n) e h (λ a. refl) refl refl
 
 -- and a compound one has the text that they make.
 compound-text : (es : List Entry) (n : ℕ) (e : Entry) → OneOf compound (tag e)
-    → inBrackets (leftText es n e) (wordText e) (rightText es n e) ≡ propositionText (proposition (spelled (take n es)) e)
+    → inBrackets (leftText es n e) (wordText e) (rightText es n e)
+    ≡ propositionText (proposition (spelled (take n es)) e)
 unfolding propositionText
 compound-text es n (Atom a) h = absurd (miss compound 0 tt h)
 compound-text es n False h = absurd (miss compound 1 tt h)
@@ -83,7 +85,8 @@ compound-text es n (Or a b) h = refl
 compound-text es n (Says k b) h = refl
 
 -- Five parts, one after the other, are the text of a number whose entry is compound.
-pub filled-compound : (old : List ℕ) (p : ℕ) (es : List Entry) (n : ℕ) (e : Entry) {a b c d out : List ℕ} {f g h i r : ℕ}
+pub filled-compound : (old : List ℕ) (p : ℕ) (es : List Entry) (n : ℕ) (e : Entry) {a b c d out : List ℕ}
+    {f g h i r : ℕ}
     → e ≡ entryAt es n → OneOf compound (tag e)
     → Filled old p (ascii "(") a f
     → Filled a f (leftText es n e) b g

@@ -181,7 +181,8 @@ module _ (es : List Entry) where
       let next : List Premise → List Kept = λ ps. goalsFrom es ws (premisesKept (k .number) ps ++ ks) in
       let most = after-most (opensFreely es w (goalKept es k)) next (length ws) (λ ps. goals-most ws _) in
       pick-cases (λ (gs : List Kept). length gs ≤ suc (length ws)) (leb (length ks) mostDepth)
-      {a = k ∷ after (opensFreely es w (goalKept es k)) (λ number. []) next} {b = []} (λ t. omega arith) (λ t. omega arith)
+      {a = k ∷ after (opensFreely es w (goalKept es k)) (λ number. []) next} {b = []} (λ t. omega arith)
+      (λ t. omega arith)
 
   lines-most : (ws ns bs : List ℕ) → length (linesAt es ws ns bs) ≤ length ns
   unfolding linesAt

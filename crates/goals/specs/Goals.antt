@@ -53,7 +53,8 @@ goalsFrom es (w ∷ ws) [] = []
 goalsFrom es (w ∷ ws) (k ∷ ks) =
     pick (leb (length ks) mostDepth)
     (k
-    ∷ after (opensFreely es w (goalKept es k)) (λ number. []) (λ ps. goalsFrom es ws (premisesKept (k .number) ps ++ ks)))
+    ∷ after (opensFreely es w (goalKept es k)) (λ number. [])
+    (λ ps. goalsFrom es ws (premisesKept (k .number) ps ++ ks)))
     []
 
 -- of a proof of one goal

@@ -65,4 +65,5 @@ line-fits (Refused number place) ks s h = omega (arith, refused-fits number plac
 pub exchange-line-fits : ExchangeLineFits
 unfolding ascii exchangeLine
 exchange-line-fits Equal s = omega arith
-exchange-line-fits (ExchangeRefused number place) s = omega (arith, refused-fits number place (omega (arith, s .1)) (s .2))
+exchange-line-fits (ExchangeRefused number place) s = omega
+    (arith, refused-fits number place (omega (arith, s .1)) (s .2))

@@ -60,8 +60,10 @@ module _ (file : List ℕ) where
         (λ e. is-carried .0 (to e), λ p. from (is-carried .1 p))
 
     -- The trace of its steps is the lines of that derivation.
-    pub lines-of-proof : (p : IsProof file) → trace (table file) (steps file) (obligation (statements file) (goal file) ∷ []) ≡ lines (p .derivation)
+    pub lines-of-proof : (p : IsProof file)
+        → trace (table file) (steps file) (obligation (statements file) (goal file) ∷ []) ≡ lines (p .derivation)
     unfolding is-carried
     lines-of-proof p =
-        trace-is-derivations (heads file) (seconds file) table-passes (obligation (statements file) (goal file) ∷ []) in-table (steps file) (is-carried .1 p)
+        trace-is-derivations (heads file) (seconds file) table-passes (obligation (statements file) (goal file) ∷ [])
+        in-table (steps file) (is-carried .1 p)
         ∙ append-nil (lines (p .derivation))

@@ -45,7 +45,8 @@ module _ (heads seconds statements : List ℕ) (goal : ℕ) (steps : List ℕ) (
   answer t = unlessRefused Refused t (granted heads seconds statements)
 
   module _ {t : Tested} (judged : t ≡ all) where
-    pub refused-by-one : {number p : ℕ} → t ≡ Outcome.Refused number p → Refused number p ≡ arraysAnswer heads seconds statements goal steps room
+    pub refused-by-one : {number p : ℕ} → t ≡ Outcome.Refused number p → Refused number p
+        ≡ arraysAnswer heads seconds statements goal steps room
     refused-by-one e = ap answer (sym e ∙ judged)
 
     pub granted-by-all : {w : RecordVerdict} → t ≡ Outcome.Passed → w ≡ granted heads seconds statements

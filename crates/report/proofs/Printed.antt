@@ -49,11 +49,13 @@ exchange-printed file before {count} {after} answered = subst (λ (w : ExchangeV
 
 -- ---- sentences
 
-module _ (file before : List ℕ) {v : SentencesVerdict} (answered : v ≡ sentencesAnswer file (length lent) (length before)) where
+module _ (file before : List ℕ) {v : SentencesVerdict}
+    (answered : v ≡ sentencesAnswer file (length lent) (length before)) where
   -- the answer with 256 words
   answer-is : sentencesAnswer file mostStatements (length before) ≡ v
   answer-is =
-      ap (λ (room : ℕ). sentencesAnswer file room (length before)) (sym (length-replicate {A = ℕ} mostStatements 0)) ∙ sym answered
+      ap (λ (room : ℕ). sentencesAnswer file room (length before)) (sym (length-replicate {A = ℕ} mostStatements 0))
+      ∙ sym answered
 
   -- A text that was written is what is printed,
   pub text-printed : {count bytes : ℕ} {after : List ℕ} → v ≡ Written count bytes → after ≡ textAfter file v before
@@ -61,7 +63,8 @@ module _ (file before : List ℕ) {v : SentencesVerdict} (answered : v ≡ sente
   text-printed {count} {bytes} {after} is left =
       let (fits, sized) = text-fits file mostStatements (length before) count bytes (answer-is ∙ is) in
       let same : printedText file (length before) ≡ recordText file = ap (printedFor file) (answer-is ∙ is) in
-      let end : placeAfter before 0 (recordText file) ≡ 0 + length (recordText file) = fill-fits before 0 (recordText file) (omega arith) in
+      let end : placeAfter before 0 (recordText file)
+      ≡ 0 + length (recordText file) = fill-fits before 0 (recordText file) (omega arith) in
       let room : length (printedText file (length before)) ≤ length before = omega (arith, fits, ap length same) in
       owed-all before same (le-leb _ _ room) (
         left ∙ ap (λ (w : SentencesVerdict). textAfter file w before) is
@@ -72,7 +75,8 @@ module _ (file before : List ℕ) {v : SentencesVerdict} (answered : v ≡ sente
 
   -- and where it was refused, the line is.
   pub refusal-printed : (list : List ℕ) {number place count : ℕ} {mid after : List ℕ} → v ≡ Refused number place
-      → mid ≡ textAfter file v before → Owed mid (recordLine (Record.Refused number place) list) count after → Owed before (printedText file (length before)) count after
+      → mid ≡ textAfter file v before → Owed mid (recordLine (Record.Refused number place) list) count after
+      → Owed before (printedText file (length before)) count after
   unfolding recordLine
   refusal-printed list {number} {place} {count} {mid} {after} is left owed =
       let same : printedText file (length before) ≡ refusedLine number place = ap (printedFor file) (answer-is ∙ is) in

@@ -29,10 +29,10 @@ pub fn line_buffer() -> [u8; MOST_LINE]
     [0; MOST_LINE]
 }
 
-// The text of a proof in sentences has so many bytes: 1 MiB.
+// So many bytes are lent for the text of a proof in sentences: 1 MiB.
 const MOST_TEXT: usize = 1048576;
 
-// Bytes for it, all 0; they have room for a refusal's line too (`WholeText`).
+// These bytes, all 0; they have room for a refusal's line too (`WholeText`).
 pub fn text_buffer() -> [u8; MOST_TEXT]
     ensures { λ r. ⌜ r ≡ replicate mostText 0 ⌝ }
 {
@@ -67,11 +67,11 @@ pub fn sentences_text(file: &[u8], text: &mut [u8]) -> usize
     ensures { λ _. ⌜ now (text .exit) ≡ lineAfter (now (text .entry)) (printedText (now (file .entry)) (length (now (text .entry)))) ⌝ }
     ensures { λ r. ⌜ (r ≤ length (now (text .exit))) × (r ≡ length (take r (now (text .exit)))) ⌝ }
 {
-    let mut signers = [0u16; MOST_STATEMENTS];
-    match write_sentences(file, &mut signers, text) {
+    let mut list = [0u16; MOST_STATEMENTS];
+    match write_sentences(file, &mut list, text) {
         SentencesVerdict::Written { signers: _, bytes } => bytes,
         SentencesVerdict::Refused { number, place } => {
-            write_record_line(RecordVerdict::Refused { number, place }, &signers, text)
+            write_record_line(RecordVerdict::Refused { number, place }, &list, text)
         }
     }
 }

@@ -37,26 +37,38 @@ release-written file list list′ text text′ answer call r fits =
     let count = ap length names in
     let room = r .fits in
     let size : ℕ = length (proofText (r .is-proof)) in
-    let grant : GrantSays file (length list) (length (r .names)) = record { keeps = r .keeps; is-proof = r .is-proof; fits = omega arith; counted = count } in
-    let is = call .answered ∙ written-exactly file (length list) (length text) (length (r .names)) size .1 (record { grant = grant; fits = fits; counted = refl }) in
+    let grant : GrantSays file (length list) (length (r .names)) = record
+    { keeps = r .keeps; is-proof = r .is-proof; fits = omega arith; counted = count } in
+    let is = call .answered ∙ written-exactly file (length list) (length text) (length (r .names)) size .1
+    (record { grant = grant; fits = fits; counted = refl }) in
     let same = text-of-derivation file (r .keeps) (r .is-proof) in (
       is,
-      call .list-after ∙ ap (λ (v : SentencesVerdict). signersAfter file v list) is ∙ ap (λ (l : List ℕ). l ++ drop (length (r .names)) list) (sym names),
-      call .text-after ∙ ap (λ (v : SentencesVerdict). textAfter file v text) is ∙ ap (λ (t : List ℕ). t ++ drop size text) same,
+      call .list-after ∙ ap (λ (v : SentencesVerdict). signersAfter file v list) is
+          ∙ ap (λ (l : List ℕ). l ++ drop (length (r .names)) list) (sym names),
+      call .text-after ∙ ap (λ (v : SentencesVerdict). textAfter file v text) is
+          ∙ ap (λ (t : List ℕ). t ++ drop size text) same,
     )
 
 -- A text that is written is a release's, and fits.
-written-release : (file : List ℕ) (room bytes count written : ℕ) → sentencesAnswer file room bytes ≡ Written count written
+written-release : (file : List ℕ) (room bytes count written : ℕ) → sentencesAnswer file room bytes
+    ≡ Written count written
     → (r : Release file room) × (length (proofText (r .is-proof)) ≤ bytes)
 written-release file room bytes count written e =
     let w = written-exactly file room bytes count written .0 e in
     let g = w .grant in (
-      record { keeps = g .keeps; is-proof = g .is-proof; names = signers file; signers = are-signers file (g .keeps); fits = g .fits },
+      record {
+        keeps = g .keeps;
+        is-proof = g .is-proof;
+        names = signers file;
+        signers = are-signers file (g .keeps);
+        fits = g .fits;
+      },
       w .fits,
     )
 
 -- What is refused stays as it was.
-module _ (file list list′ text text′ : List ℕ) (answer : SentencesVerdict) (call : Call file list list′ text text′ answer) where
+module _ (file list list′ text text′ : List ℕ) (answer : SentencesVerdict)
+    (call : Call file list list′ text text′ answer) where
   refused-as : (number p : ℕ) → sentencesAnswer file (length list) (length text) ≡ Refused number p
       → (answer ≡ Refused number p) × (list′ ≡ list) × (text′ ≡ text)
   refused-as number p e =

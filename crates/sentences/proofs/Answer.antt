@@ -43,8 +43,10 @@ module _ (file : List ℕ) (room bytes : ℕ) where
   by-last false = refl
 
   after-tests : (t : Tested) → firstRefusal (Record.tests file room) ≡ t
-      → answered (firstRefusal (tests file room bytes)) ≡ afterRecord file bytes (unlessRefused Verdict.Refused t (Verdict.Granted (length (signers file))))
-  after-tests Outcome.Passed e = ap answered (joined-passed (Record.tests file room) (last ∷ []) e) ∙ by-last (ltb bytes (length (recordText file)))
+      → answered (firstRefusal (tests file room bytes))
+      ≡ afterRecord file bytes (unlessRefused Verdict.Refused t (Verdict.Granted (length (signers file))))
+  after-tests Outcome.Passed e = ap answered (joined-passed (Record.tests file room) (last ∷ []) e)
+      ∙ by-last (ltb bytes (length (recordText file)))
   after-tests (Outcome.Refused number p) e = ap answered (joined-refused (Record.tests file room) (last ∷ []) e)
 
 pub answer-after-record : AnswerAfterRecord
@@ -82,7 +84,8 @@ module _ (file : List ℕ) (bytes count written : ℕ) where
 pub text-fits : (file : List ℕ) (room bytes count written : ℕ) → sentencesAnswer file room bytes ≡ Written count written
     → (length (recordText file) ≤ bytes) × (written ≡ length (recordText file))
 text-fits file room bytes count written e =
-    let (_, fits, size) = writes file bytes count written (recordAnswer file room) .0 (sym (answer-after-record file room bytes) ∙ e) in (fits, size)
+    let (_, fits, size) = writes file bytes count written (recordAnswer file room) .0
+    (sym (answer-after-record file room bytes) ∙ e) in (fits, size)
 
 pub written-exactly : WrittenExactly
 written-exactly file room bytes count written =

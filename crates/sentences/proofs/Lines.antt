@@ -21,7 +21,8 @@ use Rattle.sentences.specs.Promises.{ruleApplied}
 known-none : Known []
 known-none l m = absurd (List·Memᴰ·not-nil m)
 
-known-cons : (c : ℕ) (n : Option Proposition) (γ : Judgment) (ls : List Line) → c < 12 → Known ls → Known (line c n γ ∷ ls)
+known-cons : (c : ℕ) (n : Option Proposition) (γ : Judgment) (ls : List Line) → c < 12 → Known ls
+    → Known (line c n γ ∷ ls)
 known-cons c n γ ls low rest l m =
     ⊎-elim (λ e. let f = ap (λ (k : Line). k .code) e in omega (arith, f)) (rest l) (List·Memᴰ·cases-cons m)
 
@@ -53,7 +54,8 @@ firstOr δ [] = δ
 firstOr δ (γ ∷ γs) = γ
 
 module _ {R : Relation} where
-  pub first-goal : {Γ : List Proposition} {γ : Judgment} (D : Derivation R Γ γ) (δ : Judgment) → firstOr δ (goals (lines D)) ≡ γ
+  pub first-goal : {Γ : List Proposition} {γ : Judgment} (D : Derivation R Γ γ) (δ : Judgment)
+      → firstOr δ (goals (lines D)) ≡ γ
   first-goal (init m) δ = refl
   first-goal (affirm D) δ = refl
   first-goal (implies-right D) δ = refl
@@ -132,14 +134,16 @@ module _ {R : Relation} where
   applied D = map ruleApplied (lines D)
 
   abbrev Lined : {Γ : List Proposition} {γ : Judgment} → Derivation R Γ γ → Type 0
-  Lined {γ = γ} D = (rs : List (ℕ × Option Proposition)) (γs : List Judgment) → lined (applied D ++ rs) (γ ∷ γs) ≡ lines D ++ lined rs γs
+  Lined {γ = γ} D = (rs : List (ℕ × Option Proposition)) (γs : List Judgment) → lined (applied D ++ rs) (γ ∷ γs)
+      ≡ lines D ++ lined rs γs
 
   -- two derivations, one after the other
   then : {Γ Δ : List Proposition} {γ δ : Judgment} (D : Derivation R Γ γ) (E : Derivation R Δ δ) → Lined D → Lined E
       → (rs : List (ℕ × Option Proposition)) (γs : List Judgment)
       → lined (map ruleApplied (lines D ++ lines E) ++ rs) (γ ∷ δ ∷ γs) ≡ (lines D ++ lines E) ++ lined rs γs
   then {γ = γ} {δ = δ} D E first second rs γs =
-      ap (λ (us : List (ℕ × Option Proposition)). lined (us ++ rs) (γ ∷ δ ∷ γs)) (map-append ruleApplied (lines D) (lines E))
+      ap (λ (us : List (ℕ × Option Proposition)). lined (us ++ rs) (γ ∷ δ ∷ γs))
+      (map-append ruleApplied (lines D) (lines E))
       ∙ ap (λ (us : List (ℕ × Option Proposition)). lined us (γ ∷ δ ∷ γs)) (append-assoc (applied D) (applied E) rs)
       ∙ first (applied E ++ rs) (δ ∷ γs)
       ∙ ap (λ (ls : List Line). lines D ++ ls) (second rs γs)
@@ -169,7 +173,8 @@ module _ {R : Relation} where
   lined-whole : {Γ : List Proposition} {γ : Judgment} (D : Derivation R Γ γ) → lined (applied D) (γ ∷ []) ≡ lines D
   unfolding lined
   lined-whole {γ = γ} D =
-      ap (λ (us : List (ℕ × Option Proposition)). lined us (γ ∷ [])) (sym (append-nil (applied D))) ∙ lined-is D [] [] ∙ append-nil (lines D)
+      ap (λ (us : List (ℕ × Option Proposition)). lined us (γ ∷ [])) (sym (append-nil (applied D))) ∙ lined-is D [] []
+      ∙ append-nil (lines D)
 
   -- So two derivations of one goal that apply the same rules to the same formulas have the same lines.
   pub determined : {Γ Δ : List Proposition} {γ δ : Judgment} (D : Derivation R Γ γ) (E : Derivation R Δ δ)

@@ -17,7 +17,8 @@ use Rattle.sentences.proofs.Answer.{text-fits}
 use Rattle.sentences.proofs.Small.{answers-small}
 
 -- A text that is written fits the bytes that are lent, and a refusal's line fits where there is room for any line.
-fits : (file : List ℕ) (bytes : ℕ) → mostLine ≤ bytes → (v : SentencesVerdict) → sentencesAnswer file mostStatements bytes ≡ v
+fits : (file : List ℕ) (bytes : ℕ) → mostLine ≤ bytes → (v : SentencesVerdict)
+    → sentencesAnswer file mostStatements bytes ≡ v
     → length (printedFor file v) ≤ bytes
 fits file bytes room (Written count written) e = text-fits file mostStatements bytes count written e .0
 fits file bytes room (Refused number place) e =

@@ -114,17 +114,20 @@ in-brackets s m t rest = simp append-assoc
 
 read-says : (k K : ℕ) (A : Proposition) (rest : List ℕ)
     → readProposition k (propositionText A ++ (41 ∷ rest)) ≡ (A, 41 ∷ rest)
-    → readProposition (suc k) (40 ∷ (principalText K ++ (ascii " says " ++ (propositionText A ++ (41 ∷ rest))))) ≡ (K says A, rest)
+    → readProposition (suc k) (40 ∷ (principalText K ++ (ascii " says " ++ (propositionText A ++ (41 ∷ rest)))))
+    ≡ (K says A, rest)
 unfolding readProposition ascii
 read-says k K A rest r = rw (read-decimal K (ascii " says " ++ (propositionText A ++ (41 ∷ rest))) refl, r) refl
 
 -- with the word m in the middle, whose second byte is b
 read-two : (k b : ℕ) (A B : Proposition) (m rest : List ℕ)
-    → readProposition k (propositionText A ++ (m ++ (propositionText B ++ (41 ∷ rest)))) ≡ (A, m ++ (propositionText B ++ (41 ∷ rest)))
+    → readProposition k (propositionText A ++ (m ++ (propositionText B ++ (41 ∷ rest))))
+    ≡ (A, m ++ (propositionText B ++ (41 ∷ rest)))
     → second (m ++ (propositionText B ++ (41 ∷ rest))) ≡ b
     → drop (wordLength b) (m ++ (propositionText B ++ (41 ∷ rest))) ≡ propositionText B ++ (41 ∷ rest)
     → readProposition k (propositionText B ++ (41 ∷ rest)) ≡ (B, 41 ∷ rest)
-    → readProposition (suc k) (40 ∷ (propositionText A ++ (m ++ (propositionText B ++ (41 ∷ rest))))) ≡ (ofKind b A B, rest)
+    → readProposition (suc k) (40 ∷ (propositionText A ++ (m ++ (propositionText B ++ (41 ∷ rest)))))
+    ≡ (ofKind b A B, rest)
 unfolding readProposition
 read-two k b A B m rest r e d q = rw (not-principal A (m ++ (propositionText B ++ (41 ∷ rest))), r, e, d, q) refl
 

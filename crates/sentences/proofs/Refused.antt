@@ -63,14 +63,16 @@ module _ (file : List ℕ) (room bytes : ℕ) where
   of-order : (number p : ℕ) → Reason file room number p → number ∈ checkingOrder
   of-order number p r = in-order number (reason-range file room number p r)
 
-  before-record : (number p : ℕ) → Reason file room number p → before sentencesOrder number ≡ before checkingOrder number
+  before-record : (number p : ℕ) → Reason file room number p → before sentencesOrder number
+      ≡ before checkingOrder number
   before-record number p r = before-joined checkingOrder (16 ∷ []) number (of-order number p r)
 
   -- 16 itself stands before none of them.
   not-16 : (number p : ℕ) → Reason file room number p → ¬ (16 ∈ before sentencesOrder number)
   not-16 number p r m =
       let (least, most) = reason-range file room number p r in
-      let (_, less) = before-is-lower number 16 least most .0 (subst (λ (l : List ℕ). 16 ∈ l) (before-record number p r) m) in
+      let (_, less) = before-is-lower number 16 least most .0
+      (subst (λ (l : List ℕ). 16 ∈ l) (before-record number p r) m) in
       omega arith
 
   -- ---- the record is refused
@@ -83,15 +85,18 @@ module _ (file : List ℕ) (room bytes : ℕ) where
   }
     where
       none : (n q : ℕ) → n ∈ before sentencesOrder number → ¬ SentencesReason file room bytes n q
-      none n q m (of-record other) = r .none-before n q (subst (λ (l : List ℕ). n ∈ l) (before-record number p (r .applies)) m) other
-      none n q m (text-short is z proof l) = not-16 number p (r .applies) (subst (λ (k : ℕ). k ∈ before sentencesOrder number) is m)
+      none n q m (of-record other) = r .none-before n q
+          (subst (λ (l : List ℕ). n ∈ l) (before-record number p (r .applies)) m) other
+      none n q m (text-short is z proof l) = not-16 number p (r .applies)
+          (subst (λ (k : ℕ). k ∈ before sentencesOrder number) is m)
 
   of-first : (number p : ℕ) → (r : Reason file room number p)
       → ((n q : ℕ) → n ∈ before sentencesOrder number → ¬ SentencesReason file room bytes n q)
       → FirstReason checkingOrder (Reason file room) number p
   of-first number p r none = record {
     applies = r;
-    none-before = λ n q m other. none n q (subst (λ (l : List ℕ). n ∈ l) (sym (before-record number p r)) m) (of-record other);
+    none-before = λ n q m other. none n q (subst (λ (l : List ℕ). n ∈ l) (sym (before-record number p r)) m)
+        (of-record other);
   }
 
   -- ---- the record is granted
@@ -99,11 +104,13 @@ module _ (file : List ℕ) (room bytes : ℕ) where
   no-reason : (count : ℕ) → recordAnswer file room ≡ Verdict.Granted count → (n q : ℕ) → ¬ Reason file room n q
   no-reason count e n q r =
       let (passed, _) = answer-granted file room count .0 e in
-      none-has (Record.tests file room) .0 (passed-by-all (Record.tests file room) .0 passed) n q (reasons file room n q .0 r)
+      none-has (Record.tests file room) .0 (passed-by-all (Record.tests file room) .0 passed) n q
+      (reasons file room n q .0 r)
 
   -- ---- either
 
-  refuses : (v : RecordVerdict) → recordAnswer file room ≡ v → (number p : ℕ) → afterRecord file bytes v ≡ Refused number p
+  refuses : (v : RecordVerdict) → recordAnswer file room ≡ v → (number p : ℕ) → afterRecord file bytes v
+      ≡ Refused number p
       → FirstReason sentencesOrder (SentencesReason file room bytes) number p
   refuses (Verdict.Refused n q) e number p is =
       let f : n ≡ number = cc in
@@ -131,7 +138,8 @@ module _ (file : List ℕ) (room bytes : ℕ) where
           }
       short false t h = absurd (not-written (sym h))
 
-  refused-by : (v : RecordVerdict) → recordAnswer file room ≡ v → (number p : ℕ) → SentencesReason file room bytes number p
+  refused-by : (v : RecordVerdict) → recordAnswer file room ≡ v → (number p : ℕ)
+      → SentencesReason file room bytes number p
       → ((n q : ℕ) → n ∈ before sentencesOrder number → ¬ SentencesReason file room bytes n q)
       → afterRecord file bytes v ≡ Refused number p
   refused-by (Verdict.Refused n q) e number p (of-record r) none =

@@ -20,23 +20,28 @@ use Rattle.sentences.specs.Answer.{sentencesAnswer}
 use Rattle.sentences.specs.Samples.{TextOfA, OtherNumbers, TextOfEveryRule, Answers, LentAfter}
 
 pub text-of-a : TextOfA
-unfolding fileOf fileWords entries entry spelled spelledAfter holds opens step trace ascii digits decimal propositionText
+unfolding fileOf fileWords entries entry spelled spelledAfter holds opens step trace ascii digits decimal
+    propositionText
     goalText ruleName namedText lineText sentencesFrom
 text-of-a = refl
 
 pub other-numbers : OtherNumbers
-unfolding fileOf fileWords entries entry spelled spelledAfter holds opens step trace ascii digits decimal propositionText
+unfolding fileOf fileWords entries entry spelled spelledAfter holds opens step trace ascii digits decimal
+    propositionText
     goalText ruleName namedText lineText sentencesFrom
 other-numbers = refl
 
 pub text-of-every-rule : TextOfEveryRule
-unfolding fileOf fileWords entries entry spelled spelledAfter holds opens step trace ascii digits decimal propositionText
+unfolding fileOf fileWords entries entry spelled spelledAfter holds opens step trace ascii digits decimal
+    propositionText
     goalText ruleName namedText lineText sentencesFrom
 text-of-every-rule = refl
 
 pub answers : Answers
-unfolding sentencesAnswer firstRefusal wrongEntry repeatedEntry first into signers run walk fileOf fileWords entries entry
-    spelled spelledAfter holds opens step trace ascii digits decimal propositionText goalText ruleName namedText lineText
+unfolding sentencesAnswer firstRefusal wrongEntry repeatedEntry first into signers run walk fileOf fileWords entries
+    entry
+    spelled spelledAfter holds opens step trace ascii digits decimal propositionText goalText ruleName namedText
+    lineText
     sentencesFrom
 answers = (refl, refl, refl, refl)
 

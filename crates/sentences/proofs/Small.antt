@@ -31,10 +31,12 @@ small-after file bytes (Verdict.Refused number p) (least, most, within) = (least
 
 pub answers-small : AnswersSmall
 answers-small file room bytes =
-    subst (Small bytes) (sym (answer-after-record file room bytes)) (small-after file bytes (recordAnswer file room) (RecordSmall.answers-small file room))
+    subst (Small bytes) (sym (answer-after-record file room bytes))
+    (small-after file bytes (recordAnswer file room) (RecordSmall.answers-small file room))
 
 -- A file that is too long isn't granted, so what follows its record's answer is that of any other file.
-not-granted : (file other : List ℕ) (room bytes : ℕ) → mostBytes < length file → (v : RecordVerdict) → recordAnswer file room ≡ v
+not-granted : (file other : List ℕ) (room bytes : ℕ) → mostBytes < length file → (v : RecordVerdict)
+    → recordAnswer file room ≡ v
     → afterRecord file bytes v ≡ afterRecord other bytes v
 not-granted file other room bytes long (Verdict.Granted count) e =
     let grant = granted-exactly file room count .0 e in

@@ -21,14 +21,16 @@ text-of-derivation file keeps p = ap sentences (lines-of-proof file keeps p)
 
 pub line-per-step : LinePerStep
 line-per-step file keeps p =
-    line-per-word (table file) (obligation (statements file) (goal file) ∷ []) (steps file) (closes-on-proof file keeps .1 p)
+    line-per-word (table file) (obligation (statements file) (goal file) ∷ []) (steps file)
+    (closes-on-proof file keeps .1 p)
 
 proved : Judgment → Proposition
 proved (truth A) = A
 proved (K affirms A) = A
 
 -- The first line has the record's goal.
-goal-told : {file other : List ℕ} (p : IsProof file) (q : IsProof other) → proofLines p ≡ proofLines q → goalOf file ≡ goalOf other
+goal-told : {file other : List ℕ} (p : IsProof file) (q : IsProof other) → proofLines p ≡ proofLines q → goalOf file
+    ≡ goalOf other
 unfolding proved
 goal-told p q e =
     ap proved

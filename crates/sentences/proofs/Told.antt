@@ -46,7 +46,8 @@ abbrev goalHeight : Judgment → ℕ
 goalHeight (truth A) = height A
 goalHeight (K affirms A) = height A
 
-read-goal : (k : ℕ) (γ : Judgment) (rest : List ℕ) → goalHeight γ ≤ k → readGoal k (goalText γ ++ (10 ∷ rest)) ≡ (γ, rest)
+read-goal : (k : ℕ) (γ : Judgment) (rest : List ℕ) → goalHeight γ ≤ k → readGoal k (goalText γ ++ (10 ∷ rest))
+    ≡ (γ, rest)
 unfolding readGoal goalText ascii
 read-goal k (truth A) rest l = rw (not-principal A (10 ∷ rest), read-proposition k A (10 ∷ rest) l refl) refl
 read-goal k (K affirms A) rest l =
@@ -60,7 +61,8 @@ pub goal-told : GoalTold
 goal-told γ δ e =
     let k = max (goalHeight γ) (goalHeight δ) in
     parts
-    (sym (read-goal k γ [] (omega arith)) ∙ ap (λ (t : List ℕ). readGoal k (t ++ (10 ∷ []))) e ∙ read-goal k δ [] (omega arith)) .0
+    (sym (read-goal k γ [] (omega arith)) ∙ ap (λ (t : List ℕ). readGoal k (t ++ (10 ∷ []))) e
+    ∙ read-goal k δ [] (omega arith)) .0
 
 -- ---- a rule's name
 
@@ -97,8 +99,25 @@ of-each P k (suc n) h (suc c) l = subst P (omega arith) (of-each P (suc k) n (h 
 
 each-rule : Each RuleRead 0 12
 unfolding ruleName strip readName ascii
-each-rule =
-    (λ rest. refl, (λ rest. refl, (λ rest. refl, (λ rest. refl, (λ rest. refl, (λ rest. refl, (λ rest. refl, (λ rest. refl, (λ rest. refl, (λ rest. refl, (λ rest. refl, (λ rest. refl, tt))))))))))))
+each-rule = (
+  λ rest. refl,
+  (
+    λ rest. refl,
+    (
+      λ rest. refl,
+      (
+        λ rest. refl,
+        (
+          λ rest. refl,
+          (
+            λ rest. refl,
+            (λ rest. refl, (λ rest. refl, (λ rest. refl, (λ rest. refl, (λ rest. refl, (λ rest. refl, tt)))))),
+          ),
+        ),
+      ),
+    ),
+  ),
+)
 
 read-rule : (c : ℕ) → c < 12 → RuleRead c
 read-rule c l = subst RuleRead (omega arith) (of-each RuleRead 0 12 each-rule c l)
@@ -153,20 +172,23 @@ readLine k bs = (line (ruleOf bs .0) (namedOf k bs .0) (goalOf k bs .0), goalOf 
 
 line-parts : (i : ℕ) (l : Line) (rest : List ℕ)
     → lineText i l ++ rest
-    ≡ decimal i ++ (32 ∷ (ruleName (l .code) ++ (namedText (l .named) ++ (ascii " for " ++ (goalText (l .goal) ++ (10 ∷ rest))))))
+    ≡ decimal i ++ (32 ∷ (ruleName
+    (l .code) ++ (namedText (l .named) ++ (ascii " for " ++ (goalText (l .goal) ++ (10 ∷ rest))))))
 unfolding lineText ascii
 line-parts i l rest = simp append-assoc
 
 abbrev lineHeight : Line → ℕ
 lineHeight l = max (namedHeight (l .named)) (goalHeight (l .goal))
 
-read-line : (k i : ℕ) (l : Line) (rest : List ℕ) → l .code < 12 → lineHeight l ≤ k → readLine k (lineText i l ++ rest) ≡ (l, rest)
+read-line : (k i : ℕ) (l : Line) (rest : List ℕ) → l .code < 12 → lineHeight l ≤ k → readLine k (lineText i l ++ rest)
+    ≡ (l, rest)
 unfolding readLine ascii
 read-line k i l rest c h =
     ap (readLine k) (line-parts i l rest)
     ∙ rw (
       read-decimal i
-          (32 ∷ (ruleName (l .code) ++ (namedText (l .named) ++ (ascii " for " ++ (goalText (l .goal) ++ (10 ∷ rest)))))) refl,
+          (32 ∷ (ruleName
+          (l .code) ++ (namedText (l .named) ++ (ascii " for " ++ (goalText (l .goal) ++ (10 ∷ rest)))))) refl,
       read-rule (l .code) c (namedText (l .named) ++ (ascii " for " ++ (goalText (l .goal) ++ (10 ∷ rest)))),
       read-named k (l .named) (goalText (l .goal) ++ (10 ∷ rest)) (omega arith),
       read-goal k (l .goal) rest (omega arith),
@@ -183,7 +205,8 @@ line-told i l m x y c d h =
 -- No line is empty.
 line-some : (i : ℕ) (l : Line) (rest : List ℕ) → ¬ (lineText i l ++ rest ≡ [])
 line-some i l rest h =
-    let after = ruleName (l .code) ++ (namedText (l .named) ++ (ascii " for " ++ (goalText (l .goal) ++ (10 ∷ rest)))) in
+    let after = ruleName
+    (l .code) ++ (namedText (l .named) ++ (ascii " for " ++ (goalText (l .goal) ++ (10 ∷ rest)))) in
     let e = ap length (sym (line-parts i l rest) ∙ h) in
     let n = length-append (decimal i) (32 ∷ after) in
     omega (arith, e, n)
@@ -195,7 +218,8 @@ told-from i [] (m ∷ ms) c d h = absurd (line-some i m (sentencesFrom (suc i) m
 told-from i (l ∷ ls) [] c d h = absurd (line-some i l (sentencesFrom (suc i) ls) h)
 told-from i (l ∷ ls) (m ∷ ms) c d h =
     let (same, rest) =
-    line-told i l m (sentencesFrom (suc i) ls) (sentencesFrom (suc i) ms) (c l (List·Memᴰ·head refl)) (d m (List·Memᴰ·head refl)) h in
+    line-told i l m (sentencesFrom (suc i) ls) (sentencesFrom (suc i) ms) (c l (List·Memᴰ·head refl))
+    (d m (List·Memᴰ·head refl)) h in
     ap₂ {C = List Line} _∷_ same
     (told-from (suc i) ls ms (λ k j. c k (List·Memᴰ·tail j)) (λ k j. d k (List·Memᴰ·tail j)) rest)
 

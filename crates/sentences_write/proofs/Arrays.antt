@@ -42,7 +42,8 @@ use Rattle.formula_write.proofs.Lengths.{capped-below}
 -- ---- after the tests
 
 module _ (heads seconds statements : List ℕ) (goal : ℕ) (steps : List ℕ) (room : ℕ)
-    {t : Tested} (judged : t ≡ firstRefusal (contentTests heads seconds statements goal steps room)) (passed : t ≡ Passed)
+    {t : Tested} (judged : t ≡ firstRefusal (contentTests heads seconds statements goal steps room))
+    (passed : t ≡ Passed)
   where
     sizes : SizesFit heads seconds statements
     sizes =
@@ -55,8 +56,10 @@ module _ (heads seconds statements : List ℕ) (goal : ℕ) (steps : List ℕ) (
 
     closes : run (entries heads seconds) steps (obligation statements goal ∷ []) ≡ Closed (length steps)
     closes =
-        let (_, (_, (_, (_, (_, (_, (walk, _))))))) = passed-by-all (contentTests heads seconds statements goal steps room) .0 (sym judged ∙ passed) in
-        let (q, closed) = walked-nowhere (run (entries heads seconds) steps (obligation statements goal ∷ [])) .0 walk in
+        let (_, (_, (_, (_, (_, (_, (walk, _))))))) = passed-by-all
+        (contentTests heads seconds statements goal steps room) .0 (sym judged ∙ passed) in
+        let (q, closed) = walked-nowhere (run (entries heads seconds) steps (obligation statements goal ∷ [])) .0
+        walk in
         closed ∙ ap Closed (closed-uses-all (entries heads seconds) (obligation statements goal ∷ []) steps q closed)
 
 zero-then : (n : ℕ) → 0 + n ≡ n
@@ -75,7 +78,8 @@ module _ (heads seconds statements : List ℕ) (goal : ℕ) (steps : List ℕ) (
 
     -- where the record's tests pass: by 16
     abbrev by-16 : Bool → SentencesVerdict
-    by-16 short = pick short (Refused 16 0) (Written (length (signers (entries heads seconds) statements)) (length text))
+    by-16 short = pick short (Refused 16 0)
+        (Written (length (signers (entries heads seconds) statements)) (length text))
 
     pub refused-to-15 : {number p : ℕ} → t ≡ Outcome.Refused number p → Refused number p ≡ all
     refused-to-15 e = ap (λ (o : Tested). unlessRefused Refused o (by-16 (ltb bytes (length text)))) (sym e ∙ judged)
@@ -93,14 +97,17 @@ module _ (heads seconds statements : List ℕ) (goal : ℕ) (steps : List ℕ) (
             let zeros = length-replicate {A = ℕ} mostSteps 0 in
             ap (sentencesFrom 0)
             ((λ i. linesAt (entries heads seconds) steps (numbers i) (affirms i))
-            ∙ goals-written (entries heads seconds) statements goal steps (closes heads seconds statements goal steps room judged passed)
+            ∙ goals-written (entries heads seconds) statements goal steps
+            (closes heads seconds statements goal steps room judged passed)
             (replicate mostSteps 0) (replicate mostSteps 0) (omega (arith, zeros)) (omega (arith, zeros)))
 
-        module _ {n : ℕ} (measured : n ≡ capped (length (sentencesFrom 0 (linesAt (entries heads seconds) steps ns bs)))) (room-for : bytes < tooLong) where
+        module _ {n : ℕ} (measured : n ≡ capped (length
+            (sentencesFrom 0 (linesAt (entries heads seconds) steps ns bs)))) (room-for : bytes < tooLong) where
           -- its length, where it is capped
           length-is : ltb bytes n ≡ ltb bytes (length text)
           length-is =
-              ap (ltb bytes) (measured ∙ ap (λ (l : List ℕ). capped (length l)) text-is) ∙ capped-below bytes (length text) room-for
+              ap (ltb bytes) (measured ∙ ap (λ (l : List ℕ). capped (length l)) text-is)
+              ∙ capped-below bytes (length text) room-for
 
           pub refused-16 : bytes < n → Refused 16 0 ≡ all
           refused-16 short = sym (after-15 ∙ ap by-16 (sym length-is ∙ lt-ltb bytes n short))
@@ -114,7 +121,8 @@ module _ (heads seconds statements : List ℕ) (goal : ℕ) (steps : List ℕ) (
           all-written before fits lent counted (filled, placed) =
               let short = sym length-is ∙ not-less bytes n .1 fits in
               let enough = not-less bytes (length text) .0 short in
-              let end : placeAfter before 0 text ≡ length text = fill-fits before 0 text (omega arith) ∙ zero-then (length text) in
+              let end : placeAfter before 0 text ≡ length text = fill-fits before 0 text (omega arith)
+              ∙ zero-then (length text) in
               let size-is = placed ∙ ap (placeAfter before 0) text-is ∙ end in (
                 (λ i. Written (counted i) (size-is i)) ∙ sym (after-15 ∙ ap by-16 short),
                 filled ∙ ap (written before) text-is,

@@ -27,7 +27,8 @@ pub length-named : (es : List Entry) (code n : ℕ) {naming : Bool} {f r : ℕ} 
     → f ≡ lengthOf (spell es n) → r ≡ capped (1 + f) → r ≡ capped (length (namedAt es code n))
 unfolding ascii namedText lengthOf
 length-named es code n e is f r =
-    length-after (ascii " ") (propositionText (spell es n)) f r ∙ ap (λ (l : List ℕ). capped (length l)) (named-text es code n e is)
+    length-after (ascii " ") (propositionText (spell es n)) f r
+    ∙ ap (λ (l : List ℕ). capped (length l)) (named-text es code n e is)
 
 -- and nothing where it names none.
 pub length-unnamed : (es : List Entry) (code n : ℕ) {naming : Bool} → naming ≡ isNaming code → naming ≡ false
@@ -46,7 +47,8 @@ sum-more x n e f = omega arith
 
 -- a line's length, by its parts: a blank, " for " and the line feed have 7 bytes
 line-long : (i : ℕ) (l : Line)
-    → length (lineText i l) ≡ length (decimal i) + 7 + length (ruleName (l .code)) + length (namedText (l .named)) + length (goalText (l .goal))
+    → length (lineText i l) ≡ length (decimal i) + 7 + length (ruleName (l .code)) + length (namedText (l .named)) +
+    length (goalText (l .goal))
 unfolding ascii lineText
 line-long i l =
     let name = ruleName (l .code) in
@@ -76,8 +78,10 @@ length-line es i w g {one} of-code of-named e₁ s₁ e₂ s₂ e₃ s₃ e₄ s
     let named : ℕ = length (namedAt es (upper w) (lower w)) in
     let goal : ℕ = length (goalText (judgment es g)) in
     let first = s₁ ∙ ap (λ (k : ℕ). capped (k + 7)) e₁ in
-    let second = sum-more number name first (s₂ ∙ ap (λ (k : ℕ). capped (one + k)) (e₂ ∙ ap (λ (c : ℕ). length (ruleName c)) of-code)) in
-    let third = sum-both (number + name) named second (e₃ ∙ ap₂ (λ (c m : ℕ). capped (length (namedAt es c m))) of-code of-named) s₃ in
+    let second = sum-more number name first
+    (s₂ ∙ ap (λ (k : ℕ). capped (one + k)) (e₂ ∙ ap (λ (c : ℕ). length (ruleName c)) of-code)) in
+    let third = sum-both (number + name) named second
+    (e₃ ∙ ap₂ (λ (c m : ℕ). capped (length (namedAt es c m))) of-code of-named) s₃ in
     sum-both (number + name + named) goal third e₄ s₄ ∙ ap (λ (k : ℕ). capped k) (sym (line-long i (lineAt es w g)))
 
 -- ---- the lengths at hand
@@ -85,4 +89,11 @@ length-line es i w g {one} of-code of-named e₁ s₁ e₂ s₂ e₃ s₃ e₄ s
 -- Words that hold a table's lengths are no fewer.
 pub holds-enough : (es : List Entry) (ls : List ℕ) → Holds es ls → length es ≤ length ls
 holds-enough es ls h =
-    omega (arith, ap (length {A = ℕ}) h, length-take (length es) ls, length-map (spelled es) lengthOf, length-spelled es)
+    omega (
+      arith,
+      ap (length {A = ℕ}) h,
+      length-take (length es) ls,
+      length-map (spelled es) lengthOf,
+      length-spelled
+          es,
+    )

@@ -42,7 +42,8 @@ naming-none code other = sym (List·getD-eq-default namings false (past 12 code 
 pub named-text : (es : List Entry) (code n : ℕ) {naming b : Bool} → naming ≡ isNaming code → naming ≡ b
     → namedText (pick b (some (spell es n)) none) ≡ namedAt es code n
 named-text es code n e is =
-    ap (λ (t : Bool). namedText (pick t (some (spell es n)) none)) (sym is ∙ e) ∙ ap namedText (sym (naming-is-named es code n))
+    ap (λ (t : Bool). namedText (pick t (some (spell es n)) none)) (sym is ∙ e)
+    ∙ ap namedText (sym (naming-is-named es code n))
 
 -- A blank and the formula are written where the rule names one,
 pub filled-named : (old : List ℕ) (p : ℕ) (es : List Entry) (code n : ℕ) {naming : Bool} {out : List ℕ} {r : ℕ}
@@ -74,5 +75,6 @@ filled-line old p es i w g {code} {n} of-code of-named number blank name named w
     fill-then old p (decimal i) _ number
     (fill-then _ _ (ascii " ") _ blank
     (fill-then _ _ (ruleName (upper w)) _ (filled-as _ _ (ap ruleName of-code) name)
-    (fill-then _ _ (namedAt es (upper w) (lower w)) _ (filled-as _ _ (ap₂ (λ (c m : ℕ). namedAt es c m) of-code of-named) named)
+    (fill-then _ _ (namedAt es (upper w) (lower w)) _
+    (filled-as _ _ (ap₂ (λ (c m : ℕ). namedAt es c m) of-code of-named) named)
     (fill-then _ _ (ascii " for ") _ word (fill-then _ _ (goalText (judgment es g)) (ascii "\n") goal feed)))))

@@ -14,7 +14,8 @@ unfolding ascii ruleName
 no-name code none = ap ascii (List·getD-eq-default ruleNames "" (past 12 code none))
 
 -- The name of a code that is known is written,
-pub filled-name : (old : List ℕ) (p : ℕ) {code k : ℕ} {out : List ℕ} {r : ℕ} → code ≡ k → Filled old p (ruleName k) out r → Filled old p (ruleName code) out r
+pub filled-name : (old : List ℕ) (p : ℕ) {code k : ℕ} {out : List ℕ} {r : ℕ} → code ≡ k
+    → Filled old p (ruleName k) out r → Filled old p (ruleName code) out r
 filled-name old p e f = filled-as old p (ap ruleName (sym e)) f
 
 -- and where there is none, nothing.

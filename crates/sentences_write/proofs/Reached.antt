@@ -92,4 +92,5 @@ reached-more {es} {ws} {ns} {bs} {i} r l m n q =
 pub reached-all : {P : List ℕ → Type 0} {es : List Entry} {ws ns bs : List ℕ} {i : ℕ}
     → Reached P es ws ns bs i → Ended ws ns bs i → P (allText es ws ns bs)
 reached-all {P} {es} {ws} {ns} {bs} {i} r e =
-    subst P (sym (append-nil (r .text)) ∙ ap (λ (t : List ℕ). r .text ++ t) (sym (no-line es ws ns bs i e)) ∙ r .whole) (r .holds)
+    subst P (sym (append-nil (r .text)) ∙ ap (λ (t : List ℕ). r .text ++ t) (sym (no-line es ws ns bs i e))
+    ∙ r .whole) (r .holds)

@@ -30,7 +30,8 @@ module _ (file : List ℕ) where
   -- ---- 1 to 3
 
   -- A refusal by 1 to 3 is the answer.
-  pub refused-to-3 : (room bytes : ℕ) {t : Tested} {number p : ℕ} → t ≡ firstRefusal (layoutTests recordLayout file) → t ≡ Outcome.Refused number p
+  pub refused-to-3 : (room bytes : ℕ) {t : Tested} {number p : ℕ} → t ≡ firstRefusal (layoutTests recordLayout file)
+      → t ≡ Outcome.Refused number p
       → Refused number p ≡ sentencesAnswer file room bytes
   refused-to-3 room bytes answered e =
       ap (afterRecord file bytes) (layout-refused file room answered e) ∙ sym (answer-after-record file room bytes)
@@ -48,27 +49,32 @@ module _ (file : List ℕ) where
     -- what follows the record's tests
     after : (bytes : ℕ) (t : Tested)
         → unlessRefused Refused t
-        (pick (ltb bytes (length (recordText file))) (Refused 16 0) (Written (length (signers file)) (length (recordText file))))
+        (pick (ltb bytes (length (recordText file))) (Refused 16 0)
+        (Written (length (signers file)) (length (recordText file))))
         ≡ afterRecord file bytes (unlessRefused Verdict.Refused t (Verdict.Granted (length (signers file))))
     after bytes Outcome.Passed = refl
     after bytes (Outcome.Refused number p) = refl
 
     answers : (room bytes : ℕ)
-        → arraysAnswer (heads file) (seconds file) (statements file) (goal file) (steps file) room bytes ≡ sentencesAnswer file room bytes
+        → arraysAnswer (heads file) (seconds file) (statements file) (goal file) (steps file) room bytes
+        ≡ sentencesAnswer file room bytes
     answers room bytes =
-        after bytes (firstRefusal (contentTests (heads file) (seconds file) (statements file) (goal file) (steps file) room))
+        after bytes
+        (firstRefusal (contentTests (heads file) (seconds file) (statements file) (goal file) (steps file) room))
         ∙ ap (afterRecord file bytes) (parts-of-record file s room)
         ∙ sym (answer-after-record file room bytes)
 
     -- what is left in the list and in the bytes
-    leaves : (list text : List ℕ) {list′ text′ : List ℕ} (v : SentencesVerdict) → v ≡ sentencesAnswer file (length list) (length text)
+    leaves : (list text : List ℕ) {list′ text′ : List ℕ} (v : SentencesVerdict) → v
+        ≡ sentencesAnswer file (length list) (length text)
         → list′ ≡ listWritten (heads file) (seconds file) (statements file) (goal file) (steps file) v list
         → text′ ≡ textWritten (heads file) (seconds file) (statements file) (goal file) (steps file) v text
         → (list′ ≡ signersAfter file v list) × (text′ ≡ textAfter file v text)
     leaves list text (Written count size) e w x =
         let grant = written-exactly file (length list) (length text) count size .0 (sym e) .grant in
         let (fits, counted) = text-fits file (length list) (length text) count size (sym e) in (
-          w ∙ written-fits list (signers file) (grant .fits) ∙ ap (λ (n : ℕ). signers file ++ drop n list) (sym (grant .counted)),
+          w ∙ written-fits list (signers file) (grant .fits)
+              ∙ ap (λ (n : ℕ). signers file ++ drop n list) (sym (grant .counted)),
           x ∙ written-fits text (recordText file) fits ∙ ap (λ (n : ℕ). recordText file ++ drop n text) (sym counted),
         )
     leaves list text (Refused number place) e w x = (w, x)
@@ -82,7 +88,8 @@ module _ (file : List ℕ) where
         → (v ≡ sentencesAnswer file (length list) (length text))
         × ((list′ ≡ signersAfter file v list) × (text′ ≡ textAfter file v text))
     whole list text {hs} {ss} {ns} {ws} {list′} {text′} {g} {v} eh es en eg ew (answered, (listed, told)) =
-        let is = answered ∙ (λ i. arraysAnswer (eh i) (es i) (en i) (eg i) (ew i) (length list) (length text)) ∙ answers (length list) (length text) in (
+        let is = answered ∙ (λ i. arraysAnswer (eh i) (es i) (en i) (eg i) (ew i) (length list) (length text))
+        ∙ answers (length list) (length text) in (
           is,
           leaves list text v is
               (listed ∙ (λ i. listWritten (eh i) (es i) (en i) (eg i) (ew i) v list))

@@ -11,10 +11,12 @@ refusal-code-requires c κs = refused-within (c .before .before .before .before 
 returns : tie.Need-returns
 returns c =
     let v = c .before .before .before .before .before in
-    written-code (v .before .before .before .args .written .now) (v .verdict .given .1) (c .before .before .put-count .ensures)
+    written-code (v .before .before .before .args .written .now) (v .verdict .given .1)
+    (c .before .before .put-count .ensures)
 
 returns-2 : tie.Need-returns-2
-returns-2 c = refused-code (c .before .before .before .before .before .args .written .now) (c .before .before .verdict2 .given .1) (c .refusal-code .ensures)
+returns-2 c = refused-code (c .before .before .before .before .before .args .written .now)
+    (c .before .before .verdict2 .given .1) (c .refusal-code .ensures)
 
 pub sentences-code-spec : {M : Type 1} → statement M
 sentences-code-spec =

@@ -1,4 +1,5 @@
--- `wethrynda_write_sentences` meets its contract: the verdict is `sentencesAnswer`'s, which is within its bounds. Assumes
+-- `wethrynda_write_sentences` meets its contract: the verdict is `sentencesAnswer`'s, which is within its bounds.
+-- Assumes
 -- nothing.
 use borrow.Author.Needs.{needs}
 use mathlib.Core.Path.{sym, ap, subst, _∙_}
@@ -28,9 +29,11 @@ returns c =
     let e = w .write-sentences .ensures .0 in (
       coded .sentences-code .ensures .0 ∙ ap sentencesCode e,
       (
-        w .write-sentences .ensures .1 .0 ∙ ap (λ (v : SentencesVerdict). signersAfter (a .file .now) v (a .signers .now)) e,
+        w .write-sentences .ensures .1 .0
+            ∙ ap (λ (v : SentencesVerdict). signersAfter (a .file .now) v (a .signers .now)) e,
         (
-          w .write-sentences .ensures .1 .1 ∙ ap (λ (v : SentencesVerdict). textAfter (a .file .now) v (a .text .now)) e,
+          w .write-sentences .ensures .1 .1
+              ∙ ap (λ (v : SentencesVerdict). textAfter (a .file .now) v (a .text .now)) e,
           coded .sentences-code .ensures .1 ∙ ap (λ (v : SentencesVerdict). countAfter v (a .written .now)) e,
         ),
       ),

@@ -15,7 +15,8 @@ returns-2 : tie.Need-returns-2
 returns-2 c =
     let w = c .before .before .before .before .before .before .before .before .before .before .before in
     let a = w .before .before .before .before .before .args in
-    refusal-printed (a .file .now) (a .text .now) (w .write-sentences .ensures .0) _ (c .before .before .before .before .before .before .number .given .1)
+    refusal-printed (a .file .now) (a .text .now) (w .write-sentences .ensures .0) _
+    (c .before .before .before .before .before .before .number .given .1)
     (w .write-sentences .ensures .1 .1) (c .before .before .write-record-line .ensures)
 
 pub sentences-text-spec : {M : Type 1} → statement M

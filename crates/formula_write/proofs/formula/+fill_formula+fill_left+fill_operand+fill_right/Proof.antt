@@ -1,4 +1,5 @@
--- `formula::fill_formula` and the functions of its cycle meet their contracts: the numbers of the operands fall. Assumes
+-- `formula::fill_formula` and the functions of its cycle meet their contracts: the numbers of the operands fall.
+-- Assumes
 -- nothing.
 use Prim.Native.Nat.{ℕ, _+_, _*_, _<_}
 use borrow.Author.Needs.{needs}
@@ -128,42 +129,50 @@ fill-right-claims t = (
   fill-operand.Post,
 )
 
-fill-formula-returns : (t : ℕ) → fill-formula-lts.Need-returns (fill-formula-claims t) (fill-formula-at t) fill-formula.Post
+fill-formula-returns : (t : ℕ)
+    → fill-formula-lts.Need-returns (fill-formula-claims t) (fill-formula-at t) fill-formula.Post
 fill-formula-returns t c =
     let a = c .before .before .before .before .args in
     filled-past (now (a .text)) (a .at) _ (omega (arith, c .if1 .taken))
 
-fill-formula-returns-2 : (t : ℕ) → fill-formula-lts.Need-returns-2 (fill-formula-claims t) (fill-formula-at t) fill-formula.Post
+fill-formula-returns-2 : (t : ℕ)
+    → fill-formula-lts.Need-returns-2 (fill-formula-claims t) (fill-formula-at t) fill-formula.Post
 unfolding ascii propositionText
 fill-formula-returns-2 t c =
     let called = c .before .before in
     let kind = called .before .before .before in
     let found = kind .before .before in
     let a = found .before .before .before .before .before .args in
-    filled-entry _ _ (entries (now (a .heads)) (now (a .seconds))) (a .n) (found .entry-at .ensures) (kind .entry .given .1)
+    filled-entry _ _ (entries (now (a .heads)) (now (a .seconds))) (a .n) (found .entry-at .ensures)
+    (kind .entry .given .1)
     (called .fill-atom .ensures)
 
-fill-formula-returns-3 : (t : ℕ) → fill-formula-lts.Need-returns-3 (fill-formula-claims t) (fill-formula-at t) fill-formula.Post
+fill-formula-returns-3 : (t : ℕ)
+    → fill-formula-lts.Need-returns-3 (fill-formula-claims t) (fill-formula-at t) fill-formula.Post
 unfolding ascii propositionText
 fill-formula-returns-3 t c =
     let called = c .before .before in
     let kind = called .before .before .before in
     let found = kind .before .before in
     let a = found .before .before .before .before .before .args in
-    filled-entry _ _ (entries (now (a .heads)) (now (a .seconds))) (a .n) (found .entry-at .ensures) (kind .enum-told .given .1)
+    filled-entry _ _ (entries (now (a .heads)) (now (a .seconds))) (a .n) (found .entry-at .ensures)
+    (kind .enum-told .given .1)
     (called .fill .ensures)
 
-fill-formula-returns-4 : (t : ℕ) → fill-formula-lts.Need-returns-4 (fill-formula-claims t) (fill-formula-at t) fill-formula.Post
+fill-formula-returns-4 : (t : ℕ)
+    → fill-formula-lts.Need-returns-4 (fill-formula-claims t) (fill-formula-at t) fill-formula.Post
 unfolding ascii propositionText
 fill-formula-returns-4 t c =
     let called = c .before .before in
     let kind = called .before .before .before in
     let found = kind .before .before in
     let a = found .before .before .before .before .before .args in
-    filled-entry _ _ (entries (now (a .heads)) (now (a .seconds))) (a .n) (found .entry-at .ensures) (kind .enum-told2 .given .1)
+    filled-entry _ _ (entries (now (a .heads)) (now (a .seconds))) (a .n) (found .entry-at .ensures)
+    (kind .enum-told2 .given .1)
     (called .fill2 .ensures)
 
-fill-formula-returns-5 : (t : ℕ) → fill-formula-lts.Need-returns-5 (fill-formula-claims t) (fill-formula-at t) fill-formula.Post
+fill-formula-returns-5 : (t : ℕ)
+    → fill-formula-lts.Need-returns-5 (fill-formula-claims t) (fill-formula-at t) fill-formula.Post
 unfolding ascii
 fill-formula-returns-5 t c =
     let last = c .before .before in
@@ -174,7 +183,8 @@ fill-formula-returns-5 t c =
     let kind = first .before .before .before in
     let found = kind .before in
     let a = found .before .before .before .before .before .args in
-    filled-compound _ _ (entries (now (a .heads)) (now (a .seconds))) (a .n) (found .entry-at .result) (found .entry-at .ensures)
+    filled-compound _ _ (entries (now (a .heads)) (now (a .seconds))) (a .n) (found .entry-at .result)
+    (found .entry-at .ensures)
     (kind .match .keys4)
     (first .fill3 .ensures)
     (left .fill-left .ensures)
@@ -220,19 +230,22 @@ fill-left-returns-5 t c =
     filled-as _ _ (sym (no-left (entries (now (a .heads)) (now (a .seconds))) (a .n) (a .entry) (c .match .keys5)))
     (filled-none (now (a .text)) (a .at))
 
-fill-operand-returns : (t : ℕ) → fill-operand-lts.Need-returns (fill-operand-claims t) (fill-operand-at t) fill-operand.Post
+fill-operand-returns : (t : ℕ)
+    → fill-operand-lts.Need-returns (fill-operand-claims t) (fill-operand-at t) fill-operand.Post
 fill-operand-returns t c =
     let called = c .before .before in
     let a = called .before .before .before .before .before .before .args in
     filled-lower _ _ (entries (now (a .heads)) (now (a .seconds))) (a .n) (a .f .0) (called .before .before .if1 .taken)
     (called .fill-formula .ensures)
 
-fill-operand-returns-2 : (t : ℕ) → fill-operand-lts.Need-returns-2 (fill-operand-claims t) (fill-operand-at t) fill-operand.Post
+fill-operand-returns-2 : (t : ℕ)
+    → fill-operand-lts.Need-returns-2 (fill-operand-claims t) (fill-operand-at t) fill-operand.Post
 unfolding ascii propositionText
 fill-operand-returns-2 t c =
     let called = c .before .before in
     let a = called .before .before .before .before .before .before .before .args in
-    filled-higher _ _ (entries (now (a .heads)) (now (a .seconds))) (a .n) (a .f .0) (called .before .before .before .if1 .left)
+    filled-higher _ _ (entries (now (a .heads)) (now (a .seconds))) (a .n) (a .f .0)
+    (called .before .before .before .if1 .left)
     (called .fill .ensures)
 
 fill-right-returns : (t : ℕ) → fill-right-lts.Need-returns (fill-right-claims t) (fill-right-at t) fill-right.Post

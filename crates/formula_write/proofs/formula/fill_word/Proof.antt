@@ -11,19 +11,23 @@ use Rattle.formula_write.proofs.formula.fill_word.Tie as tie
 
 returns : tie.Need-returns
 unfolding ascii
-returns c = filled-as _ _ (ap wordText (sym (c .before .before .before .before .before .enum-told .given .1))) (c .before .before .fill .ensures)
+returns c = filled-as _ _ (ap wordText (sym (c .before .before .before .before .before .enum-told .given .1)))
+    (c .before .before .fill .ensures)
 
 returns-2 : tie.Need-returns-2
 unfolding ascii
-returns-2 c = filled-as _ _ (ap wordText (sym (c .before .before .before .before .before .enum-told2 .given .1))) (c .before .before .fill2 .ensures)
+returns-2 c = filled-as _ _ (ap wordText (sym (c .before .before .before .before .before .enum-told2 .given .1)))
+    (c .before .before .fill2 .ensures)
 
 returns-3 : tie.Need-returns-3
 unfolding ascii
-returns-3 c = filled-as _ _ (ap wordText (sym (c .before .before .before .before .before .enum-told3 .given .1))) (c .before .before .fill3 .ensures)
+returns-3 c = filled-as _ _ (ap wordText (sym (c .before .before .before .before .before .enum-told3 .given .1)))
+    (c .before .before .fill3 .ensures)
 
 returns-4 : tie.Need-returns-4
 unfolding ascii
-returns-4 c = filled-as _ _ (ap wordText (sym (c .before .before .before .before .before .enum-told4 .given .1))) (c .before .before .fill4 .ensures)
+returns-4 c = filled-as _ _ (ap wordText (sym (c .before .before .before .before .before .enum-told4 .given .1)))
+    (c .before .before .fill4 .ensures)
 
 returns-5 : tie.Need-returns-5
 returns-5 c =

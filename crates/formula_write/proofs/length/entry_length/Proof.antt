@@ -14,14 +14,16 @@ use Rattle.formula_write.proofs.length.entry_length.Statement.{statemen
 use Rattle.formula_write.proofs.length.entry_length.Tie as tie
 
 -- the length of an entry's text, where its kind is known
-length-of : (made : List Proposition) {e x : Entry} → e ≡ x → lengthOf (proposition made x) ≡ lengthOf (proposition made e)
+length-of : (made : List Proposition) {e x : Entry} → e ≡ x → lengthOf (proposition made x)
+    ≡ lengthOf (proposition made e)
 length-of made is = ap (λ (x : Entry). lengthOf (proposition made x)) (sym is)
 
 returns : tie.Need-returns
 unfolding ascii propositionText lengthOf
 returns c made e =
     let kind = c .before .before .before .before .entry .given in
-    length-counted (ascii "a") (decimal (kind .0 .0 .0)) (c .before .decimal-length .ensures) (c .sum .ensures) ∙ length-of made (kind .1)
+    length-counted (ascii "a") (decimal (kind .0 .0 .0)) (c .before .decimal-length .ensures) (c .sum .ensures)
+    ∙ length-of made (kind .1)
 
 returns-2 : tie.Need-returns-2
 unfolding ascii propositionText lengthOf
@@ -31,32 +33,40 @@ returns-3 : tie.Need-returns-3
 unfolding ascii propositionText lengthOf
 returns-3 c made e =
     let kind = c .before .before .before .before .before .entry2 .given in
-    length-brackets (propositionText (among made (kind .0 .0 .0))) (ascii " implies ") (propositionText (among made (kind .0 .1 .0 .0))) 11 refl
-    (c .before .before .before .formula-length .ensures made e) (c .before .before .formula-length2 .ensures made e) (c .before .sum2 .ensures) (c .sum3 .ensures)
+    length-brackets (propositionText (among made (kind .0 .0 .0))) (ascii " implies ")
+    (propositionText (among made (kind .0 .1 .0 .0))) 11 refl
+    (c .before .before .before .formula-length .ensures made e) (c .before .before .formula-length2 .ensures made e)
+    (c .before .sum2 .ensures) (c .sum3 .ensures)
     ∙ length-of made (kind .1)
 
 returns-4 : tie.Need-returns-4
 unfolding ascii propositionText lengthOf
 returns-4 c made e =
     let kind = c .before .before .before .before .before .entry3 .given in
-    length-brackets (propositionText (among made (kind .0 .0 .0))) (ascii " and ") (propositionText (among made (kind .0 .1 .0 .0))) 7 refl
-    (c .before .before .before .formula-length3 .ensures made e) (c .before .before .formula-length4 .ensures made e) (c .before .sum4 .ensures) (c .sum5 .ensures)
+    length-brackets (propositionText (among made (kind .0 .0 .0))) (ascii " and ")
+    (propositionText (among made (kind .0 .1 .0 .0))) 7 refl
+    (c .before .before .before .formula-length3 .ensures made e) (c .before .before .formula-length4 .ensures made e)
+    (c .before .sum4 .ensures) (c .sum5 .ensures)
     ∙ length-of made (kind .1)
 
 returns-5 : tie.Need-returns-5
 unfolding ascii propositionText lengthOf
 returns-5 c made e =
     let kind = c .before .before .before .before .before .entry4 .given in
-    length-brackets (propositionText (among made (kind .0 .0 .0))) (ascii " or ") (propositionText (among made (kind .0 .1 .0 .0))) 6 refl
-    (c .before .before .before .formula-length5 .ensures made e) (c .before .before .formula-length6 .ensures made e) (c .before .sum6 .ensures) (c .sum7 .ensures)
+    length-brackets (propositionText (among made (kind .0 .0 .0))) (ascii " or ")
+    (propositionText (among made (kind .0 .1 .0 .0))) 6 refl
+    (c .before .before .before .formula-length5 .ensures made e) (c .before .before .formula-length6 .ensures made e)
+    (c .before .sum6 .ensures) (c .sum7 .ensures)
     ∙ length-of made (kind .1)
 
 returns-6 : tie.Need-returns-6
 unfolding ascii propositionText lengthOf
 returns-6 c made e =
     let kind = c .before .before .before .before .before .entry5 .given in
-    length-brackets (principalText (kind .0 .0 .0)) (ascii " says ") (propositionText (among made (kind .0 .1 .0 .0))) 8 refl
-    (c .before .before .before .principal-length .ensures) (c .before .before .formula-length7 .ensures made e) (c .before .sum8 .ensures) (c .sum9 .ensures)
+    length-brackets (principalText (kind .0 .0 .0)) (ascii " says ") (propositionText (among made (kind .0 .1 .0 .0)))
+    8 refl
+    (c .before .before .before .principal-length .ensures) (c .before .before .formula-length7 .ensures made e)
+    (c .before .sum8 .ensures) (c .sum9 .ensures)
     ∙ length-of made (kind .1)
 
 returns-7 : tie.Need-returns-7

@@ -43,7 +43,8 @@ loop-again c =
       length-set (l .lengths) (l .i) x ∙ l .inv .0,
       measured-more (l .inv .1) x (omega (arith, length-entries hs ss)) (omega (arith, l .inv .0))
           (c .entry-length .ensures made (measured-front (l .inv .1))
-          ∙ ap (λ (e : Entry). lengthOf (proposition made e)) (c .before .take-apart .ensures ∙ sym (entry-at hs ss (l .i) in-heads in-seconds))),
+          ∙ ap (λ (e : Entry). lengthOf (proposition made e))
+          (c .before .take-apart .ensures ∙ sym (entry-at hs ss (l .i) in-heads in-seconds))),
     )
 
 slice-aggregate-entry-length : tie.Need-slice-aggregate-entry-length Inv-loop μ-loop
@@ -55,13 +56,15 @@ returns : tie.Need-returns Inv-loop μ-loop
 returns c =
     let a = c .before .before .before .before .before .before .before .args in
     let ended : length (now (a .seconds)) ≤ c .before .before .before .loop .i = ltb-false _ _ (c .if2 .left) in
-    measured-all (c .before .before .before .loop .inv .1) (inr (omega (arith, ended, length-entries (now (a .heads)) (now (a .seconds)))))
+    measured-all (c .before .before .before .loop .inv .1)
+    (inr (omega (arith, ended, length-entries (now (a .heads)) (now (a .seconds)))))
 
 returns-2 : tie.Need-returns-2 Inv-loop μ-loop
 returns-2 c =
     let a = c .before .before .before .before .before .before .args in
     let ended : length (now (a .heads)) ≤ c .before .before .loop .i = ltb-false _ _ (c .if1 .left) in
-    measured-all (c .before .before .loop .inv .1) (inr (omega (arith, ended, length-entries (now (a .heads)) (now (a .seconds)))))
+    measured-all (c .before .before .loop .inv .1)
+    (inr (omega (arith, ended, length-entries (now (a .heads)) (now (a .seconds)))))
 
 returns-3 : tie.Need-returns-3 Inv-loop μ-loop
 returns-3 c = measured-all (c .before .loop .inv .1) (inl (omega (arith, c .before .loop .inv .0)))

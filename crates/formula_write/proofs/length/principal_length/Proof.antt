@@ -8,7 +8,8 @@ use Rattle.formula_write.proofs.length.principal_length.Tie as tie
 
 returns : tie.Need-returns
 unfolding ascii
-returns c = length-counted (ascii "p") (decimal (c .before .before .before .args .k .0)) (c .before .decimal-length .ensures) (c .sum .ensures)
+returns c = length-counted (ascii "p") (decimal (c .before .before .before .args .k .0))
+    (c .before .decimal-length .ensures) (c .sum .ensures)
 
 pub principal-length-spec : {M : Type 1} → statement M
 principal-length-spec =

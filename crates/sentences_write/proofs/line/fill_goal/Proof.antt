@@ -18,7 +18,8 @@ returns c =
     let kind = c .before .before .before .before .before in
     let a = kind .before .before .before .before .before .args in
     let es = entries (now (a .heads)) (now (a .seconds)) in
-    filled-as _ _ (ap (λ (g : Goal). goalText (judgment es g)) (sym (kind .goal .given .1))) (c .before .before .fill-formula .ensures)
+    filled-as _ _ (ap (λ (g : Goal). goalText (judgment es g)) (sym (kind .goal .given .1)))
+    (c .before .before .fill-formula .ensures)
 
 returns-2 : tie.Need-returns-2
 unfolding ascii goalText

@@ -19,7 +19,8 @@ returns c =
     let a = test .before .before .before .before .before .args in
     let es = entries (now (a .heads)) (now (a .seconds)) in
     filled-named _ _ es (a .code) (a .n) (test .before .is-naming .ensures) (test .if1 .taken)
-    (fill-then _ _ (ascii " ") (propositionText (spell es (a .n))) (blank .fill .ensures) (formula .fill-formula .ensures))
+    (fill-then _ _ (ascii " ") (propositionText (spell es (a .n))) (blank .fill .ensures)
+    (formula .fill-formula .ensures))
 
 returns-2 : tie.Need-returns-2
 returns-2 c =

@@ -37,24 +37,29 @@ loop-again c =
     let a = third .before .before .before .before .before .before .before .before .before .before .args in
     let es = entries (now (a .heads)) (now (a .seconds)) in
     let word = getD (now (a .steps)) (l .i) 0 in
-    reached-more (l .inv) (third .before .before .loop-test .taken) (ltb-true _ _ (third .before .if1 .taken)) (ltb-true _ _ (third .if2 .taken))
+    reached-more (l .inv) (third .before .before .loop-test .taken) (ltb-true _ _ (third .before .if1 .taken))
+    (ltb-true _ _ (third .if2 .taken))
     (fill-then _ _ (l .inv .text) _ (l .inv .holds)
-    (filled-as _ _ (ap (λ (g : Goal). lineText (l .i) (lineAt es word g)) (goal .goal-at .ensures)) (line .fill-line .ensures)))
+    (filled-as _ _ (ap (λ (g : Goal). lineText (l .i) (lineAt es word g)) (goal .goal-at .ensures))
+    (line .fill-line .ensures)))
 
 same-length : tie.Need-same-length Inv-loop μ-loop
-same-length c = ap length (c .before .before .before .loop .inv .holds .0) ∙ written-at-length (now (c .before .before .before .before .before .before .before .before .before .before .args .text)) 0 _
+same-length c = ap length (c .before .before .before .loop .inv .holds .0) ∙ written-at-length
+    (now (c .before .before .before .before .before .before .before .before .before .before .args .text)) 0 _
 
 returns : tie.Need-returns Inv-loop μ-loop
 returns c = reached-all (c .before .before .before .loop .inv) (inr (inr (ltb-false _ _ (c .if2 .left))))
 
 same-length-2 : tie.Need-same-length-2 Inv-loop μ-loop
-same-length-2 c = ap length (c .before .before .loop .inv .holds .0) ∙ written-at-length (now (c .before .before .before .before .before .before .before .before .before .args .text)) 0 _
+same-length-2 c = ap length (c .before .before .loop .inv .holds .0) ∙ written-at-length
+    (now (c .before .before .before .before .before .before .before .before .before .args .text)) 0 _
 
 returns-2 : tie.Need-returns-2 Inv-loop μ-loop
 returns-2 c = reached-all (c .before .before .loop .inv) (inr (inl (ltb-false _ _ (c .if1 .left))))
 
 same-length-3 : tie.Need-same-length-3 Inv-loop μ-loop
-same-length-3 c = ap length (c .before .loop .inv .holds .0) ∙ written-at-length (now (c .before .before .before .before .before .before .before .before .args .text)) 0 _
+same-length-3 c = ap length (c .before .loop .inv .holds .0)
+    ∙ written-at-length (now (c .before .before .before .before .before .before .before .before .args .text)) 0 _
 
 returns-3 : tie.Need-returns-3 Inv-loop μ-loop
 returns-3 c = reached-all (c .before .loop .inv) (inl (c .loop-test .left))

@@ -15,7 +15,8 @@ use Rattle.sentences_write.proofs.measure.goal_length.Statement.{statem
 use Rattle.sentences_write.proofs.measure.goal_length.Tie as tie
 
 -- the length of a goal's text, where its kind is known
-length-of : (es : List Entry) {g x : Goal} → g ≡ x → capped (length (goalText (judgment es x))) ≡ capped (length (goalText (judgment es g)))
+length-of : (es : List Entry) {g x : Goal} → g ≡ x → capped (length (goalText (judgment es x)))
+    ≡ capped (length (goalText (judgment es g)))
 length-of es is = ap (λ (x : Goal). capped (length (goalText (judgment es x)))) (sym is)
 
 returns : tie.Need-returns
@@ -27,8 +28,10 @@ unfolding ascii goalText lengthOf
 returns-2 c es e =
     let kind = c .before .before .before .before .before .goal2 .given in
     let formula = propositionText (spell es (kind .0 .1 .0 .0)) in
-    length-then (principalText (kind .0 .0 .0)) (ascii " affirms " ++ formula) (c .before .before .before .principal-length .ensures)
-    (length-after (ascii " affirms ") formula (c .before .before .formula-length2 .ensures (spelled es) e) (c .before .sum .ensures))
+    length-then (principalText (kind .0 .0 .0)) (ascii " affirms " ++ formula)
+    (c .before .before .before .principal-length .ensures)
+    (length-after (ascii " affirms ") formula (c .before .before .formula-length2 .ensures (spelled es) e)
+    (c .before .sum .ensures))
     (c .sum2 .ensures)
     ∙ length-of es (kind .1)
 

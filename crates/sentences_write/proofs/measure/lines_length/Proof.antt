@@ -34,10 +34,13 @@ loop-again c =
     let a = start .args in
     let es = entries (now (a .heads)) (now (a .seconds)) in
     let word = getD (now (a .steps)) (l .i) 0 in
-    reached-more (l .inv) (third .before .before .loop-test .taken) (ltb-true _ _ (third .before .if1 .taken)) (ltb-true _ _ (third .if2 .taken))
-    (length-then (l .inv .text) (lineTextAt es (now (a .steps)) (now (a .numbers)) (now (a .affirms)) (l .i)) (l .inv .holds)
+    reached-more (l .inv) (third .before .before .loop-test .taken) (ltb-true _ _ (third .before .if1 .taken))
+    (ltb-true _ _ (third .if2 .taken))
+    (length-then (l .inv .text) (lineTextAt es (now (a .steps)) (now (a .numbers)) (now (a .affirms)) (l .i))
+    (l .inv .holds)
     (c .before .line-length .ensures es (start .pre)
-    ∙ ap (λ (g : Goal). capped (length (lineText (l .i) (lineAt es word g)))) (c .before .before .before .goal-at .ensures))
+    ∙ ap (λ (g : Goal). capped (length (lineText (l .i) (lineAt es word g))))
+    (c .before .before .before .goal-at .ensures))
     (c .sum .ensures))
 
 returns : tie.Need-returns Inv-loop μ-loop

@@ -17,7 +17,12 @@ slice-aggregate-lines-length c =
     let start = c .before .before .before .before .before .before .before .before in
     let a = start .args in
     sym (length-take-le (counted .result) (now (a .lengths))
-    (omega (arith, counted .ensures, holds-enough (entries (now (a .heads)) (now (a .seconds))) (now (a .lengths)) (start .pre))))
+    (omega (
+      arith,
+      counted .ensures,
+      holds-enough (entries (now (a .heads)) (now (a .seconds))) (now (a .lengths))
+          (start .pre),
+    )))
 
 lines-length-requires : tie.Need-lines-length-requires
 lines-length-requires c κs =

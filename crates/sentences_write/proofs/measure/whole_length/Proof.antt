@@ -14,7 +14,8 @@ text-length-requires : tie.Need-text-length-requires
 text-length-requires c κs =
     let start = c .before .before .before .before .before .before .before .before .before in
     let a = start .args in
-    measured-whole (entries (now (a .heads)) (now (a .seconds))) (replicate mostFormulas 0) (c .before .before .measure-formulas .last .1 .1 .0)
+    measured-whole (entries (now (a .heads)) (now (a .seconds))) (replicate mostFormulas 0)
+    (c .before .before .measure-formulas .last .1 .1 .0)
     (omega (arith, start .pre, length-replicate {A = ℕ} mostFormulas 0)) (c .before .before .measure-formulas .ensures)
 
 pub whole-length-spec : {M : Type 1} → statement M

@@ -13,47 +13,58 @@ returns c = filled-name _ _ (c .before .before .before .before .before .match .k
 
 returns-2 : tie.Need-returns-2
 unfolding ascii ruleName
-returns-2 c = filled-name _ _ (c .before .before .before .before .before .match .keys2) (c .before .before .fill2 .ensures)
+returns-2 c = filled-name _ _ (c .before .before .before .before .before .match .keys2)
+    (c .before .before .fill2 .ensures)
 
 returns-3 : tie.Need-returns-3
 unfolding ascii ruleName
-returns-3 c = filled-name _ _ (c .before .before .before .before .before .match .keys3) (c .before .before .fill3 .ensures)
+returns-3 c = filled-name _ _ (c .before .before .before .before .before .match .keys3)
+    (c .before .before .fill3 .ensures)
 
 returns-4 : tie.Need-returns-4
 unfolding ascii ruleName
-returns-4 c = filled-name _ _ (c .before .before .before .before .before .match .keys4) (c .before .before .fill4 .ensures)
+returns-4 c = filled-name _ _ (c .before .before .before .before .before .match .keys4)
+    (c .before .before .fill4 .ensures)
 
 returns-5 : tie.Need-returns-5
 unfolding ascii ruleName
-returns-5 c = filled-name _ _ (c .before .before .before .before .before .match .keys5) (c .before .before .fill5 .ensures)
+returns-5 c = filled-name _ _ (c .before .before .before .before .before .match .keys5)
+    (c .before .before .fill5 .ensures)
 
 returns-6 : tie.Need-returns-6
 unfolding ascii ruleName
-returns-6 c = filled-name _ _ (c .before .before .before .before .before .match .keys6) (c .before .before .fill6 .ensures)
+returns-6 c = filled-name _ _ (c .before .before .before .before .before .match .keys6)
+    (c .before .before .fill6 .ensures)
 
 returns-7 : tie.Need-returns-7
 unfolding ascii ruleName
-returns-7 c = filled-name _ _ (c .before .before .before .before .before .match .keys7) (c .before .before .fill7 .ensures)
+returns-7 c = filled-name _ _ (c .before .before .before .before .before .match .keys7)
+    (c .before .before .fill7 .ensures)
 
 returns-8 : tie.Need-returns-8
 unfolding ascii ruleName
-returns-8 c = filled-name _ _ (c .before .before .before .before .before .match .keys8) (c .before .before .fill8 .ensures)
+returns-8 c = filled-name _ _ (c .before .before .before .before .before .match .keys8)
+    (c .before .before .fill8 .ensures)
 
 returns-9 : tie.Need-returns-9
 unfolding ascii ruleName
-returns-9 c = filled-name _ _ (c .before .before .before .before .before .match .keys9) (c .before .before .fill9 .ensures)
+returns-9 c = filled-name _ _ (c .before .before .before .before .before .match .keys9)
+    (c .before .before .fill9 .ensures)
 
 returns-10 : tie.Need-returns-10
 unfolding ascii ruleName
-returns-10 c = filled-name _ _ (c .before .before .before .before .before .match .keys10) (c .before .before .fill10 .ensures)
+returns-10 c = filled-name _ _ (c .before .before .before .before .before .match .keys10)
+    (c .before .before .fill10 .ensures)
 
 returns-11 : tie.Need-returns-11
 unfolding ascii ruleName
-returns-11 c = filled-name _ _ (c .before .before .before .before .before .match .keys11) (c .before .before .fill11 .ensures)
+returns-11 c = filled-name _ _ (c .before .before .before .before .before .match .keys11)
+    (c .before .before .fill11 .ensures)
 
 returns-12 : tie.Need-returns-12
 unfolding ascii ruleName
-returns-12 c = filled-name _ _ (c .before .before .before .before .before .match .keys12) (c .before .before .fill12 .ensures)
+returns-12 c = filled-name _ _ (c .before .before .before .before .before .match .keys12)
+    (c .before .before .fill12 .ensures)
 
 returns-13 : tie.Need-returns-13
 returns-13 c = let a = c .before .before .args in filled-nameless (now (a .text)) (a .at) (a .code) (c .match .rest)

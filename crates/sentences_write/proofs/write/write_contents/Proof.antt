@@ -31,8 +31,10 @@ returns-2 c =
     let start = t .before .before .before .before .before .before .before in
     let a = start .args in (
       refused-16 (a .heads .now) (a .seconds .now) (a .statements .now) (a .goal) (a .steps .now) _ _
-          (t .judge-contents .ensures) (z .before .before .before .before .before .before .before .before .enum-told .given .1) (start .pre)
-          (w .write-goals .ensures .0) (w .write-goals .ensures .1) (z .whole-length .ensures) (omega arith) (c .if1 .taken),
+          (t .judge-contents .ensures)
+          (z .before .before .before .before .before .before .before .before .enum-told .given .1) (start .pre)
+          (w .write-goals .ensures .0) (w .write-goals .ensures .1) (z .whole-length .ensures) (omega arith)
+          (c .if1 .taken),
       (refl, refl),
     )
 
@@ -46,9 +48,12 @@ returns-3 c =
     let a = start .args in
     let s = c .before .before in
     let (is, filled) = all-written (a .heads .now) (a .seconds .now) (a .statements .now) (a .goal) (a .steps .now) _ _
-    (t .judge-contents .ensures) (z .before .before .before .before .before .before .before .before .enum-told .given .1) (start .pre)
-    (w .write-goals .ensures .0) (w .write-goals .ensures .1) (z .whole-length .ensures) (omega (arith, start .good .1 .1 .1 .1 .1 .1 .0 .1))
-    (a .text .now) (f .before .before .before .before .if1 .left) refl (s .write-signers .ensures .0) (f .fill-lines .ensures) in
+    (t .judge-contents .ensures)
+    (z .before .before .before .before .before .before .before .before .enum-told .given .1) (start .pre)
+    (w .write-goals .ensures .0) (w .write-goals .ensures .1) (z .whole-length .ensures)
+    (omega (arith, start .good .1 .1 .1 .1 .1 .1 .0 .1))
+    (a .text .now) (f .before .before .before .before .if1 .left) refl (s .write-signers .ensures .0)
+    (f .fill-lines .ensures) in
     (is, (s .write-signers .ensures .1, filled))
 
 pub write-contents-spec : {M : Type 1} → statement M

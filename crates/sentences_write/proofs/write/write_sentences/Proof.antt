@@ -9,8 +9,11 @@ use Rattle.sentences_write.proofs.write.write_sentences.Tie as tie
 
 returns : tie.Need-returns
 returns c =
-    let t = c .before .before .before in
-    (refused-to-3 (t .before .before .before .before .args .file .now) _ _ (t .check-layout .ensures) (c .before .number .given .1), (refl, refl))
+    let t = c .before .before .before in (
+      refused-to-3 (t .before .before .before .before .args .file .now) _ _ (t .check-layout .ensures)
+          (c .before .number .given .1),
+      (refl, refl),
+    )
 
 write-sized-requires : tie.Need-write-sized-requires
 write-sized-requires c κs =

@@ -46,7 +46,8 @@ returns c =
     let start = z .before .before .before .before .before .before .before .before .before .before .before in
     let k = parts z in
     whole (start .args .file .now) (start .pre .0) (start .args .signers .now) (start .args .text .now)
-    (k .heads-slice) (k .seconds-slice) (k .statements-slice) (v .before .before .before .before .word-at4 .ensures) (k .steps-slice)
+    (k .heads-slice) (k .seconds-slice) (k .statements-slice) (v .before .before .before .before .word-at4 .ensures)
+    (k .steps-slice)
     (v .write-contents .ensures)
 
 pub write-sized-spec : {M : Type 1} → statement M
