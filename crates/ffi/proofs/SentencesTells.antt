@@ -45,11 +45,11 @@ sentences-code-halves room (Written count bytes) (few, fits) = (omega (arith, fe
 sentences-code-halves room (Refused number place) (some, few, within) = refusal-halves number place some within
 
 pub code-of-a : CodeOfA
-unfolding sentencesCode set
+unfolding sentencesCode
 code-of-a = (refl, refl)
 
 pub sentences-code-tells : SentencesCodeTells
-unfolding sentencesCode set
+unfolding sentencesCode
 sentences-code-tells room (Written count bytes) (Written count′ bytes′) small small′ same left =
     ap₂ (λ (c b : ℕ). Written c b) same (ap (λ (l : List ℕ). getD l 0 0) left)
 sentences-code-tells room (Written count bytes) (Refused number′ place′) (few, fits) (some′, few′, within′) same left =
