@@ -300,7 +300,7 @@ fn the_longest_file() {
 #[test]
 fn a_stack_as_large_as_the_header_says() {
     let Deepest { table, statements, goal, proof, too_deep } = deepest();
-    on_a_small_stack(move || {
+    on_a_small_stack(320, move || {
         assert_equal(&longest(), "the longest file");
         // 32 proofs, each 512 deep
         let steps = deep(512).repeat(32);

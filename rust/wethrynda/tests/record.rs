@@ -311,7 +311,7 @@ fn the_largest_record() {
 fn a_stack_as_large_as_the_header_says() {
     let (largest, signers) = largest();
     let Deepest { table, statements, goal, proof, too_deep } = deepest();
-    on_a_small_stack(move || {
+    on_a_small_stack(320, move || {
         assert_granted(&deep(509, &[4096, 0]), 1, &[7], "512 deep");
         assert_refused(&deep(510, &[4096, 0]), 1, 10, 512, "513 deep");
         assert_granted(&largest, MOST_SIGNERS, &signers, "the largest record");

@@ -2,9 +2,8 @@
 //! byte of the text that are lent to it.
 mod common;
 
-use common::{deepest, noise, record, samples, Answer, Deepest};
+use common::{deepest, noise, on_a_small_stack, record, samples, Answer, Deepest};
 use std::fmt::Write;
-use std::thread;
 use wethrynda::{check_record, write_sentences, Sentences, Verdict, MOST_SIGNERS};
 
 /// What is lent before the call: other words than any principal's number, other bytes than any of a
@@ -194,11 +193,12 @@ fn texts_longer_than_any_memory() {
     }
 }
 
-/// Formulas as deep as a table is long, on either side: p1 says, or an implication, of the last.
+/// A formula as deep as a full table lets it be, 4,095 operands within one another: each entry is
+/// what p1 says of the one before it, or an implication with it on either side.
 fn chain(kind: u16, turned: bool) -> (Vec<u8>, String) {
     let mut table = vec![(4096, 0)];
     let mut formula = "false".to_string();
-    for last in 0..4094 {
+    for last in 0..4095 {
         let (entry, text) = match (kind, turned) {
             (5, _) => ((20480 + 1, last), format!("(p1 says {formula})")),
             (_, false) => ((8192, last), format!("(false implies {formula})")),
@@ -207,7 +207,8 @@ fn chain(kind: u16, turned: bool) -> (Vec<u8>, String) {
         table.push(entry);
         formula = text;
     }
-    let file = record(&table, &[0], 4094, &[16384]);
+    let file = record(&table, &[0], 4095, &[16384]);
+    assert_eq!(table.len(), 4096);
     (file, format!("0 false left false for {formula}\n"))
 }
 
@@ -216,15 +217,13 @@ fn chain(kind: u16, turned: bool) -> (Vec<u8>, String) {
 fn a_stack_as_large_as_the_header_says() {
     let Deepest { table, statements, goal, proof, .. } = deepest();
     let deep = record(&table, &statements, goal, &proof);
-    let run = move || {
+    on_a_small_stack(832, move || {
         for (kind, turned) in [(5, false), (2, false), (2, true)] {
             let (file, text) = chain(kind, turned);
-            assert_sentences(&file, &[], &text, "4,095 formulas deep");
+            assert_sentences(&file, &[], &text, "4,095 operands deep");
         }
         let mut text = vec![0; 1 << 22];
         let answer = write_sentences(&deep, &mut [0], &mut text);
         assert!(matches!(answer, Sentences::Written { signers: 1, .. }), "{answer:?}");
-    };
-    let thread = thread::Builder::new().stack_size(1 << 20).spawn(run).expect("a thread");
-    thread.join().expect("the calls on a small stack");
+    });
 }

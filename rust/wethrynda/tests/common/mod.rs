@@ -92,8 +92,8 @@ pub fn noise() -> impl Iterator<Item = Vec<u8>> {
     })
 }
 
-/// Runs on a thread whose stack is hardly larger than the header says.
-pub fn on_a_small_stack(run: impl FnOnce() + Send + 'static) {
-    let thread = std::thread::Builder::new().stack_size(320 * 1024).spawn(run).expect("a thread");
-    thread.join().expect("the checks on a small stack");
+/// Runs on a thread with a stack of so many KiB, hardly more than the header says.
+pub fn on_a_small_stack(kib: usize, run: impl FnOnce() + Send + 'static) {
+    let thread = std::thread::Builder::new().stack_size(kib * 1024).spawn(run).expect("a thread");
+    thread.join().expect("the calls on a small stack");
 }
