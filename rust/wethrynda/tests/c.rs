@@ -1,5 +1,6 @@
 //! The header and the library from C: the example program is compiled without a warning, and run on
-//! the samples; and null.c, which hands null pointers to the header's inline functions.
+//! the samples; and null.c, which hands null pointers to the header's inline functions, and looks
+//! at what is lent to the one for sentences.
 mod common;
 
 use common::{samples, top, Answer};

@@ -1,7 +1,8 @@
 /*
- * Null pointers to the header's inline functions. It is linked with --wrap for the three proved functions, so each call
- * of one comes to the function with __wrap_ here, and __real_ is the proved one. It prints each call that goes wrong,
- * and the exit status is then 1.
+ * Null pointers to the header's inline functions, and what the one for sentences leaves in the list, the text and the
+ * count that are lent to it. It is linked with --wrap for the three proved functions, so each call of one comes to the
+ * function with __wrap_ here, and __real_ is the proved one. It prints each call that goes wrong, and the exit status
+ * is then 1.
  */
 #include <stdio.h>
 #include <string.h>
@@ -13,6 +14,7 @@
 
 /* The answers of the proved functions. */
 #define GRANTED_COUNT_0 ((uint64_t)0)
+#define GRANTED_COUNT_1 ((uint64_t)1)
 #define REFUSED_1_PLACE_0 ((uint64_t)1 << 32)
 #define REFUSED_8_PLACE_0 ((uint64_t)8 << 32)
 #define REFUSED_16_PLACE_0 ((uint64_t)16 << 32)
@@ -55,12 +57,20 @@ uint64_t __wrap_wethrynda_write_sentences(const uint8_t *file, size_t file_lengt
 static const uint8_t A[] = {2, 0, 1, 0, 4, 0, 1, 0, 0, 0, 7, 80, 0, 0, 0, 0, 1, 0, 0, 160, 1, 176, 0, 16, 0, 0};
 static const uint8_t B[] = {3, 0, 1, 0, 3, 0, 1, 0, 0, 0, 7, 80, 8, 80, 0, 0, 0, 0, 0, 0, 0, 0, 0, 160, 0, 16, 0, 0};
 
+/* A's text as document 02 writes it, and how many bytes it has. */
+static const char TEXT_OF_A[] = "0 says right for (p7 says a0)\n"
+                                "1 says left (p7 says a0) for p7 affirms a0\n"
+                                "2 affirm for p7 affirms a0\n"
+                                "3 init a0 for a0\n";
+#define BYTES_OF_A 117
+
 /* B's text, and how many bytes it has. */
 static const char TEXT_OF_B[] = "0 says right for (p7 says a0)\n1 affirm for p7 affirms a0\n2 init a0 for a0\n";
 #define BYTES_OF_B (sizeof TEXT_OF_B - 1)
 
-/* What `written` holds before a call. */
+/* What `written` and the list hold before a call. No principal has this number. */
 #define NO_COUNT ((uint64_t)987654321)
+#define NO_SIGNER ((uint16_t)60000)
 
 /* The exit status for one call: 1, after a line about it, where the answer is another than is wanted. */
 static int differs(const char *call, uint64_t answer, uint64_t wanted) {
@@ -94,11 +104,31 @@ static int count_differs(void) {
     return wrong;
 }
 
+/* The inline function on A, which has one signer: what is in the list, the text and the count, with room to spare. */
+static int lent_differs(void) {
+    uint16_t list[2] = {NO_SIGNER, NO_SIGNER};
+    uint8_t text[BYTES_OF_A + 1] = {0};
+    uint64_t written = NO_COUNT;
+    int wrong = differs("A, the length of its text", sizeof TEXT_OF_A - 1, BYTES_OF_A);
+    uint64_t answer = wethrynda_sentences(A, sizeof A, list, 2, text, BYTES_OF_A - 1, &written);
+    wrong |= differs("A, a byte too few", answer, REFUSED_16_PLACE_0);
+    wrong |= differs("A, a byte too few, the list", list[0], NO_SIGNER);
+    wrong |= differs("A, a byte too few, the text", text[0], 0);
+    answer = wethrynda_sentences(A, sizeof A, list, 2, text, sizeof text, &written);
+    wrong |= differs("A, sentences", answer, GRANTED_COUNT_1);
+    wrong |= differs("A, its signer", list[0], 7);
+    wrong |= differs("A, the word after it", list[1], NO_SIGNER);
+    wrong |= differs("A, written", written, BYTES_OF_A);
+    wrong |= differs("A, its text", (uint64_t)memcmp(text, TEXT_OF_A, BYTES_OF_A), 0);
+    wrong |= differs("A, the byte after it", text[BYTES_OF_A], 0);
+    return wrong;
+}
+
 int main(void) {
     uint16_t list[1] = {0};
     uint8_t text[BYTES_OF_B] = {0};
     uint64_t written = NO_COUNT;
-    int wrong = count_differs();
+    int wrong = count_differs() | lent_differs();
     /* length 0 */
     wrong |= differs("no file", wethrynda_record(NULL, 0, list, 1), REFUSED_1_PLACE_0);
     wrong |= differs("no file, no list", wethrynda_record(NULL, 0, NULL, 0), REFUSED_1_PLACE_0);
