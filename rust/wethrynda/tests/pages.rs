@@ -1,8 +1,11 @@
 //! The pages say what the checker says: each line that README.md and docs/ have for a sample is the
-//! one that it gives, and the bytes that docs/FORMAT.md has for A and K are those of the files.
+//! one that it gives, and the bytes that docs/FORMAT.md has for A and K are those of the files. The
+//! sentences that docs/SENTENCES.md reads aloud are those of its sample.
 mod common;
 
+use builder::steps::RULES;
 use common::{file_of, top};
+use std::collections::BTreeSet;
 use std::fs;
 use wethrynda::{check_exchange, check_record, Exchange, Verdict, MOST_SIGNERS};
 
@@ -63,7 +66,8 @@ fn commands(page: &str) -> Vec<(&str, &str)> {
         if let (Some((kind, sample)), Some(line)) =
             (command.split_once(" samples/"), printed(after))
         {
-            assert!(sample.ends_with(&format!(".{kind}")), "{command}");
+            let of = if kind == "sentences" { "record" } else { kind };
+            assert!(sample.ends_with(&format!(".{of}")), "{command}");
             found.push((sample, line));
         }
     }
@@ -140,4 +144,25 @@ fn bytes_are_the_files() {
         }
         assert_eq!(bytes, file, "{sample}");
     }
+}
+
+/// The line that is taken apart is one of the sample's. The table has a row for each rule, which
+/// begins with number and rule as a line of the sample does.
+#[test]
+fn sentences_are_the_samples() {
+    let [page, text] = ["docs/SENTENCES.md", "samples/every-rule.sentences"].map(page);
+    let section = page.split("\n## ").find(|section| section.starts_with("A line\n"));
+    let example = section.expect("A line").lines().find_map(|row| row.strip_prefix("    "));
+    let example = example.expect("an example");
+    assert!(text.lines().any(|line| line == example), "{example}");
+    let mut rules = BTreeSet::new();
+    for row in page.lines().filter_map(|row| row.strip_prefix("| `")) {
+        let (number, rest) = row.split_once(' ').expect(row);
+        let is_here = |rule: &&str| rest.starts_with(&format!("{rule} "));
+        let rule = RULES.into_iter().find(is_here).expect(row);
+        let start = format!("{number} {rule} ");
+        assert!(text.lines().any(|line| line.starts_with(&start)), "no line begins {start}");
+        rules.insert(rule);
+    }
+    assert_eq!(rules, BTreeSet::from(RULES));
 }
