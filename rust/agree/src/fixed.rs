@@ -11,6 +11,7 @@ use builder::random::Random;
 use builder::samples::{A, K, T};
 use builder::steps::{part, AND_LEFT, IMPLIES_RIGHT, INIT, OR_LEFT};
 use builder::table::Entry::{self, And, Atom, False, Implies, Or, Says};
+use builder::texts::doubled;
 
 /// How many seeded files the set has.
 pub const SEEDED: u64 = 300_000;
@@ -232,14 +233,10 @@ fn all_signed() -> Piece {
 /// any memory: such a formula stands in the goal, or it is named, or it is held and no more.
 fn doubled_files(number: u64) -> Given {
     let times = DOUBLED[number as usize / 6];
-    let mut table = vec![Atom(0)];
-    for last in 0..times {
-        table.push(if number & 1 == 0 { And(last, last) } else { Or(last, last) });
-    }
-    table.push(Implies(times, 0));
-    let table: Vec<(u16, u16)> = table.into_iter().map(Entry::words).collect();
+    let mut table = doubled(times, if number & 1 == 0 { And } else { Or });
+    let implied = table.number(Implies(times, 0));
     let (goal, steps) = match (number / 2 % 3, number & 1) {
-        (0, _) => (times + 1, vec![IMPLIES_RIGHT, INIT]),
+        (0, _) => (implied, vec![IMPLIES_RIGHT, INIT]),
         (1, 0) => (0, vec![AND_LEFT + times, INIT]),
         (1, _) => (0, vec![OR_LEFT + times, INIT, INIT]),
         _ => (0, vec![INIT]),

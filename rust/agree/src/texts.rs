@@ -3,11 +3,9 @@
 use crate::compare::{Answer, Disagreement};
 use crate::given::Given;
 use crate::parts::Kind;
+use builder::texts::MOST_TEXT;
 use std::fmt;
 use wethrynda::Sentences;
-
-/// So many bytes the program lends. Longer texts are not compared: 16 is the answer.
-pub const MOST_BYTES: usize = 1 << 20;
 
 /// What is lent for one call: a list of so many words, and so many bytes.
 #[derive(Clone, Copy, Debug, PartialEq, Eq)]
@@ -66,7 +64,7 @@ pub fn rooms(given: &Given, answer: &Answer) -> Vec<Room> {
         Answer::Granted(signers) => {
             let count = signers.len();
             let Some(bytes) = length(&given.file, count) else {
-                return vec![room(given.room, 0), room(count, MOST_BYTES)];
+                return vec![room(given.room, 0), room(count, MOST_TEXT)];
             };
             let less = bytes.saturating_sub(1);
             let turn = match given.file.iter().map(|&byte| usize::from(byte)).sum::<usize>() % 4 {
@@ -83,10 +81,11 @@ pub fn rooms(given: &Given, answer: &Answer) -> Vec<Room> {
     }
 }
 
-/// The length of a granted record's text, by the second checker; none where it is too long.
+/// The length of a granted record's text, by the second checker; none where the program would lend
+/// too few bytes. Such texts are not compared: 16 is the answer.
 fn length(file: &[u8], signers: usize) -> Option<usize> {
     let in_bytes = |most| by_second(file, &mut vec![0; signers], &mut vec![0; most]).ok();
-    let (_, bytes) = in_bytes(MOST_BYTES >> 6).or_else(|| in_bytes(MOST_BYTES))?;
+    let (_, bytes) = in_bytes(MOST_TEXT >> 6).or_else(|| in_bytes(MOST_TEXT))?;
     Some(bytes)
 }
 
@@ -104,7 +103,7 @@ impl Counts {
         let which = match answer {
             Ok(_) => 0,
             Err((8, _)) => 1,
-            Err((16, _)) if room.bytes < MOST_BYTES => 2,
+            Err((16, _)) if room.bytes < MOST_TEXT => 2,
             Err((16, _)) => 3,
             Err(_) => 4,
         };

@@ -2,7 +2,7 @@
 
 use super::files::File;
 use super::measure::Contender;
-use super::texts::LENT as BYTES_LENT;
+use builder::texts::MOST_TEXT;
 use std::fmt::Debug;
 use std::hint::black_box;
 use wethrynda::{Exchange, Sentences, Verdict, MOST_SIGNERS};
@@ -36,17 +36,17 @@ pub fn second(file: &File) -> Contender<'_> {
 
 /// The sentences of a record. The bytes that are lent are not cleared between calls either.
 pub fn proved_text(file: &File) -> Contender<'_> {
-    let (mut lent, mut text) = ([0; MOST_SIGNERS], vec![0; BYTES_LENT]);
+    let (mut lent, mut text) = ([0; MOST_SIGNERS], vec![0; MOST_TEXT]);
     repeat(move || wethrynda::write_sentences(black_box(&file.bytes), &mut lent, &mut text))
 }
 
 pub fn plain_text(file: &File) -> Contender<'_> {
-    let (mut lent, mut text) = ([0; MOST_SIGNERS], vec![0; BYTES_LENT]);
+    let (mut lent, mut text) = ([0; MOST_SIGNERS], vec![0; MOST_TEXT]);
     repeat(move || plain::sentences(black_box(&file.bytes), &mut lent, &mut text))
 }
 
 pub fn second_text(file: &File) -> Contender<'_> {
-    let (mut lent, mut text) = ([0; MOST_SIGNERS], vec![0; BYTES_LENT]);
+    let (mut lent, mut text) = ([0; MOST_SIGNERS], vec![0; MOST_TEXT]);
     repeat(move || second::sentences(black_box(&file.bytes), &mut lent, &mut text))
 }
 
@@ -126,7 +126,7 @@ fn assert_same<T: Debug + PartialEq>(name: &str, answers: [T; 3], right: T) {
 /// refuse it as too long, and what is lent is as it was.
 pub fn assert_texts(name: &str, file: &File) -> Option<usize> {
     let [mut by_proved, mut by_plain, mut by_second] =
-        [0; 3].map(|_| ([LENT; MOST_SIGNERS], vec![0xff; BYTES_LENT]));
+        [0; 3].map(|_| ([LENT; MOST_SIGNERS], vec![0xff; MOST_TEXT]));
     let proved = match wethrynda::write_sentences(&file.bytes, &mut by_proved.0, &mut by_proved.1) {
         Sentences::Written { signers, bytes } => Ok((signers, bytes)),
         Sentences::Refused { number, place } => Err((number, place)),

@@ -12,9 +12,6 @@ pub struct Text {
     length: Option<usize>,
 }
 
-/// So many bytes the program lends.
-pub const LENT: usize = 1 << 20;
-
 /// Each is first seen to give the same text, or to be refused by all three.
 pub fn texts() -> Vec<Text> {
     let text = |name, file| Text { name, length: assert_texts(name, &file), file };

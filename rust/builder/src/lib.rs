@@ -7,6 +7,7 @@
 //! - `crowded`: tables that crowd the index by which the proved checker makes test 5.
 //! - `random`: numbers that look random.
 //! - `samples`: samples of document 01, as words.
+//! - `texts`: formulas over themselves, whose texts are long.
 #![forbid(unsafe_code)]
 
 pub mod crowded;
@@ -15,3 +16,4 @@ pub mod random;
 pub mod samples;
 pub mod steps;
 pub mod table;
+pub mod texts;

@@ -2,6 +2,8 @@
 //! byte of the text that are lent to it.
 mod common;
 
+use builder::table::Entry::And;
+use builder::texts::{doubled, tree, tree_goals, MOST_TEXT};
 use common::{deepest, noise, on_a_small_stack, record, samples, Answer, Deepest};
 use std::fmt::Write;
 use wethrynda::{check_record, write_sentences, Sentences, Verdict, MOST_SIGNERS};
@@ -80,7 +82,7 @@ fn every_sample() {
                 written += 1;
             }
             (Answer::Granted(_), None) => {
-                for bytes in [0, 1, 1 << 20] {
+                for bytes in [0, 1, MOST_TEXT] {
                     assert_refused(file, [MOST_SIGNERS, bytes], 16, 0, name);
                 }
                 too_long.push(name.clone());
@@ -135,13 +137,7 @@ fn numbers_of_every_length() {
     }
 }
 
-/// Entry 0 is atom 0, and each of so many after it the one before it and itself.
-fn doubled(times: u16) -> Vec<(u16, u16)> {
-    let double = |operand: u16| (12288 + operand, operand);
-    [(0, 0)].into_iter().chain((0..times).map(double)).collect()
-}
-
-/// The text of such an entry.
+/// The text of an entry that is doubled so often.
 fn doubled_text(times: u16) -> String {
     match times {
         0 => "a0".to_string(),
@@ -149,27 +145,16 @@ fn doubled_text(times: u16) -> String {
     }
 }
 
-/// The proof of the last of them from atom 0: a tree of and right, whose tops are init.
-fn tree(height: u16, steps: &mut Vec<u16>, text: &mut String) {
-    let (number, goal) = (steps.len(), doubled_text(height));
-    if height == 0 {
-        steps.push(0);
-        writeln!(text, "{number} init a0 for {goal}").expect("text");
-    } else {
-        steps.push(20480);
-        writeln!(text, "{number} and right for {goal}").expect("text");
-        tree(height - 1, steps, text);
-        tree(height - 1, steps, text);
-    }
-}
-
 /// 16,383 steps, and a text of more than 1 MiB.
 #[test]
 fn a_long_text() {
-    let (mut steps, mut text) = (vec![], String::new());
-    tree(13, &mut steps, &mut text);
-    assert!(steps.len() == 16_383 && text.len() > 1 << 20);
-    let file = record(&doubled(13), &[0], 13, &steps);
+    let (steps, mut text) = (tree(13), String::new());
+    for (number, goal) in tree_goals(13).into_iter().enumerate() {
+        let rule = if goal == 0 { "init a0" } else { "and right" };
+        writeln!(text, "{number} {rule} for {}", doubled_text(goal)).expect("text");
+    }
+    assert!(steps.len() == 16_383 && text.len() > MOST_TEXT);
+    let file = record(&doubled(13, And), &[0], 13, &steps);
     assert_sentences(&file, &[], &text, "a long text");
 }
 
@@ -178,14 +163,14 @@ fn a_long_text() {
 fn texts_longer_than_any_memory() {
     for times in [20, 59, 60, 61, 62, 63, 64, 65, 128, 1000, 4000, 4094] {
         // the long formula is held and no line has it
-        let mut table = doubled(times);
+        let mut table = doubled(times, And).to_vec();
         let file = record(&table, &[0, times], 0, &[0]);
         assert_sentences(&file, &[], "0 init a0 for a0\n", "an unused formula");
         // it is named, twice; and it stands in the goal
         table.push((8192 + times, 0));
         let named = record(&table, &[0, times], 0, &[24576 + times, 24576 + times, 0]);
         let goal = record(&table, &[0], times + 1, &[8192, 0]);
-        for bytes in [0, 1, 1 << 20] {
+        for bytes in [0, 1, MOST_TEXT] {
             for (file, about) in [(&named, "named"), (&goal, "in the goal")] {
                 assert_refused(file, [0, bytes], 16, 0, &format!("{about}, {times} times"));
             }

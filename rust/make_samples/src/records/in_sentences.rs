@@ -5,6 +5,7 @@ use crate::sample::{bare, sample, Kind, Section};
 use builder::steps::*;
 use builder::table::Entry::{And, Atom, False, Implies, Or, Says};
 use builder::table::Table;
+use builder::texts::{doubled, taken_apart};
 
 /// A proof with each of the twelve rules: `everyRule` of `crates/sentences/specs/Samples.antt`,
 /// whose text is proved there.
@@ -80,20 +81,6 @@ fn other_way_round() -> Record {
     record(&table, &[paper], goal, &steps)
 }
 
-/// Atom 0, and so many formulas of which each is (A and A) for the one before it, A. The last is a
-/// statement, and and left takes one after the other apart.
-fn doubled(times: usize) -> Record {
-    let mut table = Table::default();
-    let mut formulas = vec![table.number(Atom(0))];
-    for last in 0..times {
-        formulas.push(table.number(And(formulas[last], formulas[last])));
-    }
-    let mut steps: Vec<u16> =
-        formulas[1..].iter().rev().map(|formula| AND_LEFT + formula).collect();
-    steps.push(INIT + formulas[0]);
-    record(&table, &[formulas[times]], formulas[0], &steps)
-}
-
 pub fn in_sentences() -> Section<Record> {
     Section {
         title: "The proof in sentences",
@@ -122,7 +109,7 @@ pub fn in_sentences() -> Section<Record> {
                  to a0. The record is granted; but the text of its proof would have more than \
                  2^40 bytes, so the program that writes sentences says `refused 16 place 0`, and \
                  no `doubled-40-times.sentences` stands here.",
-                doubled(40).bytes(),
+                record(&doubled(40, And), &[40], 0, &taken_apart(40)).bytes(),
                 "granted 0",
             ),
         ],
