@@ -2,9 +2,10 @@
 //! signers of few and many statements, and a table made for collisions.
 use builder::layout::{bytes, exchange, record};
 use builder::samples::T;
+use builder::texts::MOST_TEXT;
 use plain::{check_exchange, check_record, sentences, Refusal};
 use std::collections::BTreeSet;
-use std::path::Path;
+use std::path::{Path, PathBuf};
 use std::{fs, iter};
 
 /// The line that the record program would print, with a list of so many words; the words after the
@@ -73,61 +74,77 @@ fn exchanges_of_document_01() {
     }
 }
 
-#[test]
-fn every_sample_of_the_repository() {
+/// A sample of the repository, with the line that is stored for it.
+struct Sample {
+    path: PathBuf,
+    name: String,
+    file: Vec<u8>,
+    line: String,
+}
+
+fn samples() -> Vec<Sample> {
     let package = Path::new(env!("CARGO_MANIFEST_DIR"));
     let top = package.ancestors().nth(2).expect("the package stands in the repository's rust/");
     let lines = fs::read_to_string(top.join("crates/samples/stdout")).expect("the samples' lines");
-    for line in lines.lines() {
+    let sample = |line: &str| {
         let (name, answer) = line.split_once(' ').expect(line);
-        let file = fs::read(top.join("samples").join(name)).expect(name);
+        let path = top.join("samples").join(name);
+        let file = fs::read(&path).expect(name);
+        Sample { path, name: name.to_string(), file, line: answer.to_string() }
+    };
+    lines.lines().map(sample).collect()
+}
+
+#[test]
+fn every_sample_of_the_repository() {
+    for Sample { name, file, line, .. } in samples() {
         let is_record = name.ends_with(".record");
         let found = if is_record { record_line(&file, 256) } else { exchange_line(&file) };
-        assert_eq!(found, answer, "{name}");
+        assert_eq!(found, line, "{name}");
     }
 }
 
-/// The text, where so much is lent; no byte after it has changed, nor a word after the signers.
-fn text_of(file: &[u8], words: usize, bytes: usize) -> Result<String, (u8, usize)> {
+/// The signers and the text, where so much is lent; no byte after the text has changed, nor a word
+/// after the signers.
+fn written(file: &[u8], words: usize, bytes: usize) -> Result<(Vec<u16>, String), (u8, usize)> {
     let (mut list, mut text) = (vec![60_000; words], vec![200; bytes]);
     let answer = sentences(file, &mut list, &mut text);
     let (count, length) = answer.unwrap_or((0, 0));
     assert!(list[count..].iter().all(|&word| word == 60_000));
     assert!(text[length..].iter().all(|&byte| byte == 200));
+    list.truncate(count);
     text.truncate(length);
     let text = String::from_utf8(text).expect("the text is plain");
-    answer.map(|_| text).map_err(|refusal| (refusal.number, refusal.place))
+    answer.map(|_| (list, text)).map_err(|refusal| (refusal.number, refusal.place))
 }
 
-/// The stored sentences where there is just room for them; 16 where a byte is missing, and before
-/// it 8 where a word is.
+/// The stored sentences, and the signers of the stored line, where there is just room for them; 16
+/// where a byte is missing, and before it 8 where a word is.
 #[test]
 fn sentences_of_every_sample() {
-    let package = Path::new(env!("CARGO_MANIFEST_DIR"));
-    let top = package.ancestors().nth(2).expect("the package stands in the repository's rust/");
-    let lines = fs::read_to_string(top.join("crates/samples/stdout")).expect("the samples' lines");
-    let records = lines.lines().filter_map(|line| line.split_once(".record "));
-    for (name, line) in records {
-        let path = top.join("samples").join(name);
-        let file = fs::read(path.with_extension("record")).expect(name);
+    let records = samples().into_iter().filter(|sample| sample.name.ends_with(".record"));
+    for Sample { path, name, file, line } in records {
         let words: Vec<&str> = line.split(' ').collect();
         match (&words[..], fs::read_to_string(path.with_extension("sentences"))) {
-            (["granted", signers, ..], Ok(text)) => {
-                let signers: usize = signers.parse().expect(line);
-                assert_eq!(text_of(&file, signers, text.len() + 99), Ok(text.clone()), "{name}");
-                assert_eq!(text_of(&file, 256, text.len()), Ok(text.clone()), "{name}");
-                assert_eq!(text_of(&file, 256, text.len() - 1), Err((16, 0)), "{name}");
-                if signers > 0 {
-                    assert_eq!(text_of(&file, signers - 1, 0), Err((8, 0)), "{name}");
+            (["granted", count, signers @ ..], Ok(text)) => {
+                let signers: Vec<u16> =
+                    signers.iter().map(|signer| signer.parse().expect(&line)).collect();
+                let count = count.parse().expect(&line);
+                let (length, right) = (text.len(), Ok((signers, text)));
+                assert_eq!(written(&file, count, length + 99), right, "{name}");
+                assert_eq!(written(&file, 256, length), right, "{name}");
+                assert_eq!(written(&file, 256, length - 1), Err((16, 0)), "{name}");
+                if count > 0 {
+                    assert_eq!(written(&file, count - 1, 0), Err((8, 0)), "{name}");
                 }
             }
             (["granted", ..], Err(_)) => {
-                assert_eq!(name, "doubled-40-times");
-                assert_eq!(text_of(&file, 256, 1 << 20), Err((16, 0)), "{name}");
+                assert_eq!(name, "doubled-40-times.record");
+                assert_eq!(written(&file, 256, MOST_TEXT), Err((16, 0)), "{name}");
             }
             (["refused", number, _, place], _) => {
-                let right = (number.parse().expect(line), place.parse().expect(line));
-                assert_eq!(text_of(&file, 256, 0), Err(right), "{name}");
+                let right = (number.parse().expect(&line), place.parse().expect(&line));
+                assert_eq!(written(&file, 256, 0), Err(right), "{name}");
             }
             _ => panic!("{name} {line}"),
         }
