@@ -1,7 +1,7 @@
 /*
  * Checks the record or the exchange file that is named, and prints the line of document 01; or prints a record's proof
  * in sentences. The exit status is 0 for granted and equal, 1 for refused, and 2 where there is no verdict, because the
- * file cannot be read or the line not written. At the top of the repository:
+ * file cannot be read or what it prints cannot be written. At the top of the repository:
  *
  *     rt staticlib ffi
  *     cc -Iinclude examples/check.c target/staticlib/libffi.a -o target/check

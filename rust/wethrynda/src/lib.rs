@@ -116,8 +116,8 @@ pub fn check_exchange(file: &[u8]) -> Exchange {
 /// refusal 16, after all others. A short proof may have a text that is too long for any memory: a
 /// record of some 16,000 bytes can have one of more than 2^4000.
 ///
-/// It needs more stack than the check, since a formula is written by a call within a call for each
-/// operand, up to 4,096 of them; a thread has enough by default.
+/// It needs about 800 KB of stack, which a thread has by default: a formula may be 4,095 operands
+/// deep.
 pub fn write_sentences(file: &[u8], signers: &mut [u16], text: &mut [u8]) -> Sentences {
     let (list, room) = (signers.as_mut_ptr(), signers.len());
     let (bytes, length) = (text.as_mut_ptr(), text.len());
