@@ -84,8 +84,9 @@ fn other_way_round() -> Record {
 pub fn in_sentences() -> Section<Record> {
     Section {
         title: "The proof in sentences",
-        about: "Release officers read a proof aloud before they sign. Beside each record of this \
-                page that is granted stands its proof in sentences, but for the last one here.",
+        about: "Release officers read a proof aloud before they sign; `./wethrynda sentences` \
+                prints it. Beside each record of this page that is granted stands its proof in \
+                sentences, but for the last one here.",
         samples: vec![
             sample(
                 "every-rule",
