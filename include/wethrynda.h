@@ -29,8 +29,11 @@ extern "C" {
  * writes no file, and keeps nothing from call to call.
  *
  * Granted: the record's signers, principal numbers from 0 to 4095, stand in signers[0] .. signers[count - 1], each
- * once, strictly rising by number. The words after them are as they were.
- * Refused: no word of the list has changed. A list shorter than the number of signers is refusal 8.
+ * once, strictly rising by number. The words after them are as they were. Signers are those who carried the release:
+ * the principals K with a statement K says A that some says left of the proof names. A paper that lies unused makes no
+ * signer.
+ * Refused: no word of the list has changed. A list shorter than the number of signers is refusal 8, place 0, tested
+ * after 1 to 7 and 9 to 15: such a record would be granted with a longer list.
  *
  * What the caller sees to, since the function cannot test it:
  * - Neither pointer is null, even where its length is 0. A pointer to any object will do there. `signers` is aligned as
@@ -88,9 +91,9 @@ static inline uint64_t wethrynda_exchange(const uint8_t *file, size_t file_lengt
  * stands in text[0] .. text[written[0] - 1], a line for each step, each ended by a line feed, with no null byte after
  * it; and written[0] is how many bytes that is, where `written_length` is 1 or more. The words and the bytes after them
  * are as they were, and so are written[1] and all that follow.
- * Refused: nothing that is lent has changed, `written` neither. A list shorter than the number of signers is refusal 8.
- * Fewer bytes than the whole text has are refusal 16, place 0, tested after all others. A short proof may have a text
- * that is too long for any memory.
+ * Refused: nothing that is lent has changed, `written` neither. A list shorter than the number of signers is refusal 8,
+ * as above. Fewer bytes than the whole text has are refusal 16, place 0, tested after all others, 8 too. A short proof
+ * may have a text that is too long for any memory.
  *
  * What the caller sees to, since the function cannot test it:
  * - No pointer is null, even where its length is 0. A pointer to any object will do there. `signers` is aligned as a

@@ -59,15 +59,37 @@ words 3 1 2 7 0 1 12288 0 0 1 2 0 1 24578 0 24578 1 20480 0 1 >"$room/K"
 words 1 0 1 1 0 0 0 0 >"$room/L"
 { words 4096 256 256 16384 && zeros 50176; } >"$room/longest-exchange"
 : >"$room/empty"
-# A's proof with 256 papers, of the principals 4095 down to 3840: as many signers as can be, and the longest line.
-names=$(i=3840 && while [ $i -le 4095 ]; do echo $i && i=$((i + 1)); done)
+# 256 papers, of the principals 4095 down to 3840, all of which are used for what all 256 say: as many signers as can
+# be, and the longest line. The formulas are a0; then the papers, from that of 3840; then the first two of these joined
+# by and, and what is joined with each next one.
+numbers() { # FIRST LAST
+    i=$1
+    while [ "$i" -le "$2" ]; do
+        echo "$i"
+        i=$((i + 1))
+    done
+}
+names=$(numbers 3840 4095)
+{
+    words 512 256 1279 511
+    words 0
+    for name in $names; do words $((20480 + name)); done
+    words 12289
+    for joined in $(numbers 257 510); do words $((12288 + joined)); done
+    zeros 514
+    for paper in $(numbers 2 256); do words "$paper"; done
+    for name in $names; do words $((4096 - name)); done
+    for _ in $(numbers 1 255); do words 20480; done
+    for paper in $(numbers 1 256); do words 40960 $((45056 + paper)) 4096 0; done
+} >"$room/signed"
+# The same papers with A's proof, which uses that of 3840 alone.
 {
     words 257 256 4 1 0
     for name in $names; do words $((20480 + name)); done
     zeros 514
     for name in $names; do words $((4096 - name)); done
     words 40960 45057 4096 0
-} >"$room/signed"
+} >"$room/one-used"
 # shellcheck disable=SC2086,SC2116 # the numbers on one line
 all="granted 256 $(echo $names)"
 for name in A K longest-record longest-exchange; do
@@ -160,6 +182,7 @@ done
 check 'sample: a text that is too long' 1 'refused 16 place 0' 'more bytes than there is room for' "$script" sentences samples/doubled-40-times.record
 check 'program: 256 signers' 0 "$all" '' "$programs/check_record" <"$room/signed"
 check 'script: 256 signers' 0 "$all" '' "$script" record "$room/signed"
+check 'program: 256 papers, one of them used' 0 'granted 1 3840' '' "$programs/check_record" <"$room/one-used"
 check 'script: no words' 2 '' 'usage:' "$script"
 check 'script: another word' 2 '' 'usage:' "$script" recrd "$room/A"
 check 'script: the name of a program' 2 '' 'usage:' "$script" check_record "$room/A"
@@ -291,7 +314,8 @@ for line in 'granted 0' 'granted 1 7' 'refused 6 place 0' 'refused 8 place 0'; d
     known exchange 2 "$line"
 done
 
-# What is said of an exchange file where it differs: both lists, all proofs, a proof that is due.
+# What is said of an exchange file where it differs: both lists, all proofs, a proof that is due; and of a short list,
+# that the rest is right.
 said() { # KIND LINE TEXT
     tell 0 0 "$2"
     pretend "$1" "what is said of '$2'" 1 "$2" "$3"
@@ -302,6 +326,8 @@ said exchange 'refused 7 place 3' 'Statement 3 (the first is 0, through the firs
 said exchange 'refused 9 place 95' 'a proof is still due'
 said record 'refused 12 place 4' 'Step 4 (the first is 0) names'
 said exchange 'refused 12 place 4' 'Step 4 (the first is 0, through all proofs) names'
+said record 'refused 8 place 0' 'The steps are a proof, but it uses papers of more principals than the list'
+said sentences 'refused 8 place 0' 'The steps are a proof, but it uses papers of more principals than the list'
 said record 'refused 15 place 7' 'The proof is complete before the steps end'
 said exchange 'refused 15 place 7' 'All proofs are complete before the steps end'
 

@@ -1,6 +1,6 @@
 -- Laws of a choice by a test, and of two tests at once. Assumes nothing.
 use mathlib.Core.Bool.{Bool, true, false, false≢true}
-use mathlib.Core.Path.{_≡_, refl}
+use mathlib.Core.Path.{_≡_, refl, sym}
 use mathlib.Core.Logic.{_↔_}
 use Rattle.basics.specs.Choice.{pick, both}
 
@@ -13,3 +13,9 @@ both-true false b = (λ e. absurd (false≢true e), λ h. h .0)
 pub pick-cases : {A : Type 0} (P : A → Type 0) (t : Bool) {a b : A} → (t ≡ true → P a) → (t ≡ false → P b) → P (pick t a b)
 pick-cases P true p q = p refl
 pick-cases P false p q = q refl
+
+-- Two tests that are true together are one.
+pub same-test : (a b : Bool) → a ≡ true ↔ b ≡ true → a ≡ b
+same-test true b e = sym (e .0 refl)
+same-test false true e = e .1 refl
+same-test false false e = refl

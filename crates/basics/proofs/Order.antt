@@ -1,10 +1,11 @@
 -- Tests that stand in the checking order refuse by the first reason in that order (specs/Order.antt). Assumes nothing.
 use Prim.Native.Nat.{ℕ, zero, suc, _+_, _≤_, _<_}
 use native.Mathlib.Omega.{arith}
+use native.Mathlib.Decide.{decLt}
 use mathlib.Core.Bool.{Bool, true, false, not, true≢false}
 use mathlib.Core.Path.{_≡_, refl, sym, ap, subst, _∙_}
 use mathlib.Core.Logic.{_↔_, Iff·trans, _⊎_, inl, inr, ⊎-elim}
-use mathlib.Core.List.{List, [], _∷_, _++_, List·Memᴰ·head, List·Memᴰ·tail, List·Memᴰ·cases-cons, List·Memᴰ·not-nil}
+use mathlib.Core.List.{List, [], _∷_, _++_, List·Memᴰ·head, List·Memᴰ·tail, List·Memᴰ·cases-cons, List·Memᴰ·not-nil, List·Memᴰ·append-cases, List·Memᴰ·eq-of-singleton, Memᴰ·append-left, Memᴰ·append-right}
 use lib.Dec.{eqb}
 use borrow.Author.Tests.{eqb-true, eq-eqb, ne-eqb, not-true}
 use Rattle.basics.specs.declared.place.Place.{Place}
@@ -13,7 +14,7 @@ use Rattle.basics.specs.declared.tested.Tested.the-variants.{Refused}
 use Rattle.basics.specs.Choice.{pick, both}
 use Rattle.basics.specs.Membership.{_∈_, holds}
 use Rattle.basics.specs.Refusals.{Test, firstRefusal, FirstThat, NoneApplies}
-use Rattle.basics.specs.Order.{checkingOrder, before, FirstReason, BeforeIsLower, FirstIsLowest, Samples}
+use Rattle.basics.specs.Order.{checkingOrder, before, FirstReason, BeforeIsLower, BeforeEight, FirstIsLowest, Samples}
 use Rattle.basics.proofs.Choice.{both-true, pick-cases}
 use Rattle.basics.proofs.Membership.{holds-member}
 use Rattle.basics.proofs.Asked.{somewhere}
@@ -81,6 +82,39 @@ module _ (n number : ℕ) (ns : List ℕ) (other : ¬ (n ≡ number)) where
 
   either-before : (m : ℕ) → m ∈ before (n ∷ ns) number → (m ≡ n) ⊎ (m ∈ before ns number)
   either-before m i = List·Memᴰ·cases-cons (subst (λ (l : List ℕ). m ∈ l) (before-other n number ns other) i)
+
+-- Of two lists joined: before one of the first stand those of the first,
+module _ (more : List ℕ) (number : ℕ) where
+  pub before-joined : (ns : List ℕ) → number ∈ ns → before (ns ++ more) number ≡ before ns number
+  unfolding before
+  before-joined [] m = absurd (List·Memᴰ·not-nil m)
+  before-joined (n ∷ ns) m = by (before-joined ns) (eqb n number) refl
+    where
+      later : eqb n number ≡ false → number ∈ ns
+      later e =
+          ⊎-elim (λ q. absurd (true≢false (sym (eq-eqb n number (sym q)) ∙ e))) (λ i. i) (List·Memᴰ·cases-cons m)
+
+      by : (number ∈ ns → before (ns ++ more) number ≡ before ns number) → (b : Bool) → eqb n number ≡ b
+          → pick b [] (n ∷ before (ns ++ more) number) ≡ pick b [] (n ∷ before ns number)
+      by rest true e = refl
+      by rest false e = ap (λ (l : List ℕ). n ∷ l) (rest (later e))
+
+  -- and before another all of the first, and what stands before it in the second.
+  before-further : (ns : List ℕ) → ¬ (number ∈ ns) → before (ns ++ more) number ≡ ns ++ before more number
+  before-further [] none = refl
+  before-further (n ∷ ns) none =
+      before-other n number (ns ++ more) (λ e. none (List·Memᴰ·head (sym e)))
+      ∙ ap (λ (l : List ℕ). n ∷ l) (before-further ns (λ m. none (List·Memᴰ·tail m)))
+
+-- What stands before one stands in the order.
+pub before-in : (order : List ℕ) (number n : ℕ) → n ∈ before order number → n ∈ order
+unfolding before
+before-in [] number n m = m
+before-in (a ∷ ns) number n m =
+    pick-cases (λ (l : List ℕ). n ∈ l → n ∈ a ∷ ns) (eqb a number)
+    (λ e none. absurd (List·Memᴰ·not-nil none))
+    (λ e i. ⊎-elim List·Memᴰ·head (λ j. List·Memᴰ·tail (before-in ns number n j)) (List·Memᴰ·cases-cons i))
+    m
 
 -- ---- the first that applies is the first in the order
 
@@ -213,9 +247,36 @@ row-within a zero n m = absurd (List·Memᴰ·not-nil m)
 row-within a (suc k) n m =
     ⊎-elim (λ e. (omega arith, omega arith)) (λ later. let (l, u) = row-within (suc a) k n later in (omega arith, omega arith)) (List·Memᴰ·cases-cons m)
 
-pub in-checking-order : (number : ℕ) → number ∈ checkingOrder → (1 ≤ number) × (number ≤ 15)
+-- The order is 1 to 7, 9 to 15, and 8; its numbers are 1 to 15.
+abbrev in-rows : List ℕ
+in-rows = row 1 7 ++ (row 9 7 ++ (8 ∷ []))
+
+order-is : checkingOrder ≡ in-rows
 unfolding row
-in-checking-order number m = let (least, below) = row-within 1 15 number m in (least, omega arith)
+order-is = refl
+
+pub in-checking-order : (number : ℕ) → number ∈ checkingOrder → (1 ≤ number) × (number ≤ 15)
+in-checking-order number m =
+    let i : number ∈ in-rows = subst (λ (l : List ℕ). number ∈ l) order-is m in
+    ⊎-elim
+    (λ low. let (l, u) = row-within 1 7 number low in (l, omega arith))
+    (λ rest.
+    ⊎-elim (λ high. let (l, u) = row-within 9 7 number high in (omega arith, omega arith))
+    (λ eight. let e = List·Memᴰ·eq-of-singleton eight in (omega arith, omega arith))
+    (List·Memᴰ·append-cases (row 9 7) rest))
+    (List·Memᴰ·append-cases (row 1 7) i)
+
+pub of-checking-order : (number : ℕ) → 1 ≤ number → number ≤ 15 → number ∈ checkingOrder
+of-checking-order number least most =
+    subst (λ (l : List ℕ). number ∈ l) (sym order-is)
+    (by-place (decLt number 8) (decLt 8 number))
+  where
+    by-place : Dec (number < 8) → Dec (8 < number) → number ∈ in-rows
+    by-place (yes l) other = Memᴰ·append-left (row 9 7 ++ (8 ∷ [])) (in-row 1 7 number least (omega arith))
+    by-place (no l) (yes u) =
+        Memᴰ·append-right (row 1 7) (Memᴰ·append-left (8 ∷ []) (in-row 9 7 number (omega arith) (omega arith)))
+    by-place (no l) (no u) =
+        Memᴰ·append-right (row 1 7) (Memᴰ·append-right (row 9 7) (List·Memᴰ·head (omega arith)))
 
 -- Before a number of a row stand the lower ones.
 before-in-row : (a k number n : ℕ) → number ∈ row a k → n ∈ before (row a k) number ↔ ((a ≤ n) × (n < number))
@@ -241,21 +302,86 @@ before-in-row a (suc k) number n m =
           later-before a number (row (suc a) k) other n (from (omega (arith, past), u))),
     ))
 
+module _ (n : ℕ) where
+  -- 1 to 7, and below a number what is lower
+  before-low : (number : ℕ) → 1 ≤ number → number < 8 → n ∈ before in-rows number ↔ ((1 ≤ n) × (n < number))
+  before-low number least l =
+      let m = in-row 1 7 number least (omega arith) in
+      rw (before-joined (row 9 7 ++ (8 ∷ [])) number (row 1 7) m) (before-in-row 1 7 number n m)
+
+  -- 9 to 15: before these stand 1 to 7, and of 9 to 15 what is lower
+  before-high : (number : ℕ) → 8 < number → number ≤ 15
+      → n ∈ before in-rows number ↔ ((n ∈ row 1 7) ⊎ ((9 ≤ n) × (n < number)))
+  before-high number least most =
+      let m = in-row 9 7 number least (omega arith) in
+      let none : ¬ (number ∈ row 1 7) = λ i. let (l, u) = row-within 1 7 number i in absurd (omega arith) in
+      let (to, from) = before-in-row 9 7 number n m in
+      rw (before-further (row 9 7 ++ (8 ∷ [])) number (row 1 7) none, before-joined (8 ∷ []) number (row 9 7) m) (
+        λ i. ⊎-elim inl (λ j. inr (to j)) (List·Memᴰ·append-cases (row 1 7) i),
+        ⊎-elim (Memᴰ·append-left (before (row 9 7) number)) (λ j. Memᴰ·append-right (row 1 7) (from j)),
+      )
+
 pub before-is-lower : BeforeIsLower
-unfolding row
-before-is-lower number n least most = before-in-row 1 15 number n (in-row 1 15 number least (omega arith))
+before-is-lower number n least most other = rw order-is (by-place (decLt number 8))
+  where
+    by-place : Dec (number < 8) → n ∈ before in-rows number ↔ ((1 ≤ n) × (n < number) × (¬ (n ≡ 8)))
+    by-place (yes l) =
+        let (to, from) = before-low n number least l in
+        (λ i. let (a, b) = to i in (a, b, λ e. omega arith), λ (a, b, _). from (a, b))
+    by-place (no l) =
+        let (to, from) = before-high n number (omega (arith, other)) most in (
+          λ i.
+              ⊎-elim (λ j. let (a, b) = row-within 1 7 n j in (a, omega arith, λ e. omega arith))
+              (λ (a, b). (omega arith, b, λ e. omega arith))
+              (to i),
+          λ (a, b, c). from (low-or-high (decLt n 8) a b c),
+        )
+      where
+        low-or-high : Dec (n < 8) → 1 ≤ n → n < number → ¬ (n ≡ 8) → (n ∈ row 1 7) ⊎ ((9 ≤ n) × (n < number))
+        low-or-high (yes u) a b c = inl (in-row 1 7 n a (omega arith))
+        low-or-high (no u) a b c = inr (omega (arith, c), b)
+
+-- Before 8 stand both rows.
+before-last : before in-rows 8 ≡ row 1 7 ++ row 9 7
+unfolding before row
+before-last = refl
+
+pub before-eight : BeforeEight
+before-eight n = rw (order-is, before-last) (
+  λ i.
+      ⊎-elim (λ j. let (a, b) = row-within 1 7 n j in (a, omega arith, λ e. omega arith))
+      (λ j. let (a, b) = row-within 9 7 n j in (omega arith, omega arith, λ e. omega arith))
+      (List·Memᴰ·append-cases (row 1 7) i),
+  λ (a, b, c). by-place (decLt n 8) a b c,
+)
+  where
+    by-place : Dec (n < 8) → 1 ≤ n → n ≤ 15 → ¬ (n ≡ 8) → n ∈ row 1 7 ++ row 9 7
+    by-place (yes l) a b c = Memᴰ·append-left (row 9 7) (in-row 1 7 n a (omega arith))
+    by-place (no l) a b c = Memᴰ·append-right (row 1 7) (in-row 9 7 n (omega (arith, c)) (omega arith))
+
+-- What is lower, and not 8, stands before a number, 8 or not.
+pub lower-before : (number n : ℕ) → number ≤ 15 → 1 ≤ n → n < number → ¬ (n ≡ 8) → n ∈ before checkingOrder number
+lower-before number n most least less other =
+    pick-cases (λ (b : Bool). n ∈ before checkingOrder number) (eqb number 8) {a = true} {b = false}
+    (λ e.
+    subst (λ (m : ℕ). n ∈ before checkingOrder m) (sym (eqb-true number 8 e))
+    (before-eight n .1 (least, omega arith, other)))
+    (λ e.
+    before-is-lower number n (omega arith) most (λ is. true≢false (sym (eq-eqb number 8 is) ∙ e)) .1
+    (least, less, other))
 
 pub first-is-lowest : FirstIsLowest
 first-is-lowest Reason range number p = (
   λ r.
-      let (least, most) = range number p (r .applies) in (
+      let (least, most, other) = range number p (r .applies) in (
         r .applies,
         λ n q less reason.
-            r .none-before n q (before-is-lower number n least most .1 (range n q reason .0, less)) reason,
+            let (at-least, _, another) = range n q reason in
+            r .none-before n q (before-is-lower number n least most other .1 (at-least, less, another)) reason,
       ),
   λ (reason, none).
-      let (least, most) = range number p reason in
-      record { applies = reason; none-before = λ n q i. none n q (before-is-lower number n least most .0 i .1) },
+      let (least, most, other) = range number p reason in
+      record { applies = reason; none-before = λ n q i. none n q (before-is-lower number n least most other .0 i .1) },
 )
 
 pub samples : Samples

@@ -9,9 +9,9 @@ use lib.Dec.{eqb}
 use Rattle.basics.specs.Choice.{pick}
 use Rattle.basics.specs.Membership.{_∈_}
 
--- "Refused, in checking order" (01)
+-- "Refused, in checking order" (01); "Refusal 8 .. is tested after 15 and before 16" (02, job 3)
 abbrev pub checkingOrder : List ℕ
-checkingOrder = 1 ∷ 2 ∷ 3 ∷ 4 ∷ 5 ∷ 6 ∷ 7 ∷ 8 ∷ 9 ∷ 10 ∷ 11 ∷ 12 ∷ 13 ∷ 14 ∷ 15 ∷ []
+checkingOrder = 1 ∷ 2 ∷ 3 ∷ 4 ∷ 5 ∷ 6 ∷ 7 ∷ 9 ∷ 10 ∷ 11 ∷ 12 ∷ 13 ∷ 14 ∷ 15 ∷ 8 ∷ []
 
 -- the numbers that stand before one in an order; before a number that is not in it, all of them
 unfoldable pub before : List ℕ → ℕ → List ℕ
@@ -24,15 +24,20 @@ pub record FirstReason (order : List ℕ) (Reason : ℕ → ℕ → Type 0) (num
   pub applies : Reason number p
   pub none-before : (n q : ℕ) → n ∈ before order number → ¬ Reason n q
 
--- 01's numbers, 1 to 15, rise in its order: there, what stands before a number is what is lower.
+-- But for 8 the numbers rise in this order: before another stand those that are lower,
 abbrev pub BeforeIsLower : Type 0
 BeforeIsLower =
-    (number n : ℕ) → 1 ≤ number → number ≤ 15 → n ∈ before checkingOrder number ↔ ((1 ≤ n) × (n < number))
+    (number n : ℕ) → 1 ≤ number → number ≤ 15 → ¬ (number ≡ 8)
+    → n ∈ before checkingOrder number ↔ ((1 ≤ n) × (n < number) × (¬ (n ≡ 8)))
 
--- So of reasons with these numbers the first is the one with the lowest number.
+-- and before 8 all others.
+abbrev pub BeforeEight : Type 0
+BeforeEight = (n : ℕ) → n ∈ before checkingOrder 8 ↔ ((1 ≤ n) × (n ≤ 15) × (¬ (n ≡ 8)))
+
+-- So of reasons without 8 the first is the one with the lowest number.
 abbrev pub FirstIsLowest : Type 1
 FirstIsLowest =
-    (Reason : ℕ → ℕ → Type 0) → ((n p : ℕ) → Reason n p → (1 ≤ n) × (n ≤ 15))
+    (Reason : ℕ → ℕ → Type 0) → ((n p : ℕ) → Reason n p → (1 ≤ n) × (n ≤ 15) × (¬ (n ≡ 8)))
     → (number p : ℕ) → FirstReason checkingOrder Reason number p
     ↔ (Reason number p × ((n q : ℕ) → n < number → ¬ Reason n q))
 

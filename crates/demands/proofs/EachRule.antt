@@ -11,7 +11,8 @@ use Rattle.table.specs.Entry.{entry}
 use Rattle.table.specs.Tests.{entries, wrongEntry, repeatedEntry}
 use Rattle.steps.specs.Step.{opens, step}
 use Rattle.steps.specs.Run.{walk, run}
-use Rattle.signers.specs.Signers.{signers}
+use Rattle.steps.specs.Naming.{isNaming, namedNumbers}
+use Rattle.signers.specs.Signers.{principals, used}
 use Rattle.record.specs.Answer.{recordAnswer}
 use Rattle.line.specs.RefusedLine.{refusedLine}
 use Rattle.line.specs.RecordLine.{listed, recordLine}
@@ -19,5 +20,5 @@ use Rattle.demands.specs.EachRule.{EachRule}
 
 pub each-rule : EachRule
 unfolding listed recordLine refusedLine ascii decimal digits recordAnswer fileWords fileOf firstRefusal wrongEntry
-    repeatedEntry first into signers run walk step opens holds entries entry
+    repeatedEntry first into principals used namedNumbers isNaming run walk step opens holds entries entry
 each-rule = refl

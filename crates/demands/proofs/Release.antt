@@ -4,37 +4,46 @@
 use Prim.Native.Nat.{ℕ, _≤_}
 use native.Mathlib.Omega.{arith}
 use mathlib.Core.Path.{_≡_, refl, sym, subst, _∙_}
-use mathlib.Core.Logic.{Iff·trans, _⊎_, inl, inr}
+use mathlib.Core.Logic.{_↔_, Iff·symm, Iff·trans, _⊎_, inl, inr}
 use mathlib.Core.List.{List}
 use lib.ListN.{length}
-use Rattle.signers.specs.Each.{AreSigners}
-use Rattle.signers.proofs.Each.{signers-are, one-list, signs-spelled}
+use Rattle.signers.specs.Each.{Signs, AreSigners}
+use Rattle.signers.proofs.Each.{signers-are, one-list}
 use Rattle.record.specs.declared.verdict.RecordVerdict.{RecordVerdict}
 use Rattle.record.specs.declared.verdict.RecordVerdict.the-variants.{Granted, Refused}
-use Rattle.record.specs.Layout.{table, statements, signers}
+use Rattle.record.specs.Layout.{table, statements, saysLeftNumbers, signers}
 use Rattle.record.specs.Answer.{recordAnswer}
 use Rattle.record.specs.ListAfter.{listAfter}
-use Rattle.record.specs.Proof.{Keeps}
+use Rattle.record.specs.Proof.{Keeps, IsProof}
+use Rattle.record.specs.Carries.{Carries}
 use Rattle.record.specs.Promises.{GrantSays}
+use Rattle.record.proofs.Carries.{signs-carry}
 use Rattle.record.proofs.Granted.{granted-exactly}
 use Rattle.record.proofs.Reasons.{refused-exactly}
 use Rattle.demands.specs.Release.{Signers, Release, GrantedWithSigners, First, RefusedUntouched}
 
 -- ---- a release
 
-module _ {file : List ℕ} (keeps : Keeps file) {names : List ℕ} where
-  -- The signers over propositions are those of the entries.
-  spelled : AreSigners (table file) (statements file) names → Signers file names
-  spelled are = record {
-    each = λ K. Iff·trans (are .each K) (signs-spelled (table file) (keeps .ordered) (statements file) K);
-    rising = are .rising;
-  }
+module _ {file : List ℕ} (keeps : Keeps file) (p : IsProof file) where
+  -- Who signs by the words carries by the proof.
+  carried : (K : ℕ) → Signs (table file) (statements file) (saysLeftNumbers file) K ↔ ((q : IsProof file) × Carries q K)
+  carried K = (λ s. (p, signs-carry file keeps p K .0 s), λ (q, c). signs-carry file keeps q K .1 c)
 
-  entered : Signers file names → AreSigners (table file) (statements file) names
-  entered are = record {
-    each = λ K. let (to, from) = signs-spelled (table file) (keeps .ordered) (statements file) K in Iff·trans (are .each K) (from, to);
-    rising = are .rising;
-  }
+  module _ {names : List ℕ} where
+    -- The signers over propositions are those of the entries.
+    over-proof : AreSigners (table file) (statements file) (saysLeftNumbers file) names → Signers file names
+    over-proof are = record { each = λ K. Iff·trans (are .each K) (carried K); rising = are .rising }
+
+    over-words : Signers file names → AreSigners (table file) (statements file) (saysLeftNumbers file) names
+    over-words are = record { each = λ K. Iff·trans (are .each K) (Iff·symm (carried K)); rising = are .rising }
+
+  -- A record has its signers,
+  pub has-signers : Signers file (signers file)
+  has-signers = over-proof (signers-are (table file) (statements file) (saysLeftNumbers file))
+
+  -- and no others.
+  pub are-signers : {names : List ℕ} → Signers file names → names ≡ signers file
+  are-signers {names} are = one-list (table file) (statements file) (saysLeftNumbers file) names (over-words are)
 
 module _ (file : List ℕ) (room : ℕ) where
   release : {count : ℕ} → GrantSays file room count → Release file room
@@ -42,7 +51,7 @@ module _ (file : List ℕ) (room : ℕ) where
     keeps = r .keeps;
     is-proof = r .is-proof;
     names = signers file;
-    signers = spelled (r .keeps) (signers-are (table file) (statements file));
+    signers = has-signers (r .keeps) (r .is-proof);
     fits = r .fits;
   }
 
@@ -50,9 +59,7 @@ module _ (file : List ℕ) (room : ℕ) where
   releases r = record {
     keeps = r .keeps;
     is-proof = r .is-proof;
-    fits =
-        let same = one-list (table file) (statements file) (r .names) (entered (r .keeps) (r .signers)) in
-        subst (λ names. length names ≤ room) same (r .fits);
+    fits = subst (λ names. length names ≤ room) (are-signers (r .keeps) (r .is-proof) (r .signers)) (r .fits);
     counted = refl;
   }
 
@@ -87,11 +94,11 @@ module _ (file : List ℕ) (room : ℕ) where
 
 module _ (file before after : List ℕ) where
   -- what is written where the answer is a grant
-  granted-list : Keeps file → after ≡ listAfter file (Granted (length (signers file))) before
+  granted-list : Keeps file → IsProof file → after ≡ listAfter file (Granted (length (signers file))) before
       → GrantedWithSigners file (Granted (length (signers file))) before after
-  granted-list keeps l = record {
+  granted-list keeps p l = record {
     names = signers file;
-    signers = spelled keeps (signers-are (table file) (statements file));
+    signers = has-signers keeps p;
     granted = refl;
     written = l;
   }
@@ -102,7 +109,7 @@ module _ (file before after : List ℕ) where
   granted answer e l r =
       let is : answer ≡ Granted (length (signers file)) = e ∙ granted-exactly file (length before) _ .1 (releases file (length before) r) in
       subst (λ v. after ≡ listAfter file v before → GrantedWithSigners file v before after) (sym is)
-      (granted-list (r .keeps)) l
+      (granted-list (r .keeps) (r .is-proof)) l
 
   pub refused : (answer : RecordVerdict) → answer ≡ recordAnswer file (length before)
       → after ≡ listAfter file answer before

@@ -16,13 +16,16 @@ use Rattle.table.specs.Tests.{entries, wrongEntry, repeatedEntry}
 use Rattle.table.specs.Spelled.{spelled, spelledAfter}
 use Rattle.steps.specs.Step.{opens, step}
 use Rattle.steps.specs.Run.{walk, run}
-use Rattle.signers.specs.Signers.{signers}
-use Rattle.signers.specs.Each.{SaysSome}
+use Rattle.steps.specs.Naming.{isNaming, namedNumbers}
+use Rattle.signers.specs.Signers.{principals, used}
 use Rattle.record.specs.declared.verdict.RecordVerdict.the-variants.{Granted, Refused}
-use Rattle.record.specs.Layout.{table, statements}
+use Rattle.record.specs.Layout.{signers}
 use Rattle.record.specs.Answer.{recordAnswer}
-use Rattle.record.specs.Proof.{statedBy}
+use Rattle.record.specs.Proof.{statedBy, IsProof}
+use Rattle.record.specs.Carries.{Carries}
 use Rattle.record.specs.Samples.{overT, bytesOfA}
+use Rattle.record.proofs.Granted.{granted-exactly}
+use Rattle.record.proofs.Carries.{signers-carry}
 use Rattle.record.proofs.Reasons.{refused-exactly}
 use Rattle.demands.specs.Release.{GrantOfA, RefusalOfC}
 
@@ -32,13 +35,27 @@ stated-by-A : statedBy bytesOfA ≡ 7 says atom 0 ∷ []
 unfolding fileWords entries entry spelled spelledAfter
 stated-by-A = refl
 
-seven-says : SaysSome (table bytesOfA) (statements bytesOfA) 7
-seven-says = record { said = atom 0; stands = subst (λ (l : List Proposition). (7 says atom 0) ∈ l) (sym stated-by-A) first }
+-- It is granted, so there is a proof, and 7 carries it;
+granted-A : recordAnswer bytesOfA 1 ≡ Granted 1
+unfolding recordAnswer fileWords firstRefusal wrongEntry repeatedEntry first-place into principals used namedNumbers
+    isNaming run walk step opens holds entries entry
+granted-A = refl
 
-only-seven : (K : ℕ) → SaysSome (table bytesOfA) (statements bytesOfA) K → K ≡ 7
-only-seven K s =
-    let here : (K says s .said) ∈ (7 says atom 0 ∷ []) = subst (λ (l : List Proposition). (K says s .said) ∈ l) stated-by-A (s .stands) in
-    let e : K says s .said ≡ 7 says atom 0 = List·Memᴰ·eq-of-singleton here in cc
+seven-listed : 7 ∈ signers bytesOfA
+unfolding fileWords into principals used namedNumbers isNaming holds entries entry
+seven-listed = first
+
+seven-carries : (p : IsProof bytesOfA) × Carries p 7
+seven-carries =
+    let g = granted-exactly bytesOfA 1 1 .0 granted-A in
+    (g .is-proof, signers-carry bytesOfA (g .keeps) (g .is-proof) 7 .0 seven-listed)
+
+-- and nobody else has a paper.
+only-seven : (K : ℕ) → (p : IsProof bytesOfA) × Carries p K → K ≡ 7
+only-seven K (p, c) =
+    let here : (K says c .said) ∈ (7 says atom 0 ∷ []) =
+    subst (λ (l : List Proposition). (K says c .said) ∈ l) stated-by-A (c .stated) in
+    let e : K says c .said ≡ 7 says atom 0 = List·Memᴰ·eq-of-singleton here in cc
 
 -- A rising list of 7 alone has one 7.
 one-seven : (names : List ℕ) → ((K : ℕ) → K ∈ names → K ≡ 7) → 7 ∈ names → Rising names → names ≡ 7 ∷ []
@@ -49,7 +66,7 @@ one-seven names all m rising =
 pub grant-of-a : GrantOfA
 grant-of-a answer before after g =
     let each = g .signers .each in
-    let e : g .names ≡ 7 ∷ [] = one-seven (g .names) (λ K m. only-seven K (each K .0 m)) (each 7 .1 seven-says)
+    let e : g .names ≡ 7 ∷ [] = one-seven (g .names) (λ K m. only-seven K (each K .0 m)) (each 7 .1 seven-carries)
     (g .signers .rising) in (
       g .granted ∙ ap (λ (l : List ℕ). Granted (length l)) e,
       g .written ∙ ap (λ (l : List ℕ). l ++ drop (length l) before) e,
@@ -58,8 +75,8 @@ grant-of-a answer before after g =
 -- ---- C
 
 answer-to-C : recordAnswer (fileOf (overT (1 ∷ []) 0 (45057 ∷ []))) 1 ≡ Refused 14 0
-unfolding recordAnswer fileWords fileOf firstRefusal wrongEntry repeatedEntry first-place into signers
-    run walk step opens holds entries entry
+unfolding recordAnswer fileWords fileOf firstRefusal wrongEntry repeatedEntry first-place into principals used
+    namedNumbers isNaming run walk step opens holds entries entry
 answer-to-C = refl
 
 pub refusal-of-c : RefusalOfC

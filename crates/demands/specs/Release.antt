@@ -9,17 +9,17 @@ use Rattle.basics.specs.Membership.{_∈_}
 use Rattle.basics.specs.Rising.{Rising}
 use Rattle.basics.specs.Order.{FirstReason, checkingOrder}
 use Rattle.file.specs.Words.{fileOf}
-use Rattle.signers.specs.Each.{SaysSome}
 use Rattle.record.specs.declared.verdict.RecordVerdict.{RecordVerdict}
 use Rattle.record.specs.declared.verdict.RecordVerdict.the-variants.{Granted, Refused}
-use Rattle.record.specs.Layout.{table, statements}
 use Rattle.record.specs.Proof.{Keeps, IsProof}
+use Rattle.record.specs.Carries.{Carries}
 use Rattle.record.specs.Reasons.{Reason}
 use Rattle.record.specs.Samples.{overT, bytesOfA}
 
--- The signers of a record: those K of whom a statement spells K says A, each once, "in rising principal number" (02).
+-- The signers of a record: those K who carried, in the proof that its words are, each once, "in rising principal
+-- number" (02, job 1). `Carries`: a statement spells K says A, and some says left names it (02, job 3).
 pub record Signers (file names : List ℕ) : Type 0 where
-  pub each : (K : ℕ) → K ∈ names ↔ SaysSome (table file) (statements file) K
+  pub each : (K : ℕ) → K ∈ names ↔ ((p : IsProof file) × Carries p K)
   pub rising : Rising names
 
 -- "A record that keeps the layout and its limits, whose words are a proof of its goal and whose signers fit the list

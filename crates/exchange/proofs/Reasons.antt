@@ -84,8 +84,8 @@ module _ (file : List ℕ) (number p : ℕ) where
 follows : (file : List ℕ) → Follows checkingOrder (tests file)
 follows file =
     let range : (n p : ℕ) → stepVerdict file ≡ Walk.Refused n p → (9 ≤ n) × (n ≤ 15) = λ n p e. let (l, m, _) = step-number file n p e in (l, m) in
-    let from-9 = walked-follows (stepVerdict file) range in
-    inl (refl, inl (refl, inl (refl, inl (refl, inl (refl, inr (inl (refl, inr from-9)))))))
+    let from-9 = walked-follows (stepVerdict file) range (8 ∷ []) [] tt in
+    inl (refl, inl (refl, inl (refl, inl (refl, inl (refl, inr (inl (refl, from-9)))))))
 
 -- A reason's number is one of it: 1 to 15.
 pub reason-range : (file : List ℕ) (number p : ℕ) → Reason file number p → (1 ≤ number) × (number ≤ 15)

@@ -7,7 +7,7 @@ use mathlib.Core.List.{List}
 use lib.ListN.{length-append}
 use Rattle.basics.specs.Order.{FirstReason, checkingOrder}
 use Rattle.basics.proofs.Asked.{settled}
-use Rattle.basics.proofs.Order.{before-is-lower}
+use Rattle.basics.proofs.Order.{lower-before}
 use Rattle.file.specs.Reasons.{size-outside}
 use Rattle.file.proofs.LayoutLaws as Any
 use Rattle.file.proofs.LayoutLaws.{part-most}
@@ -28,7 +28,7 @@ module _ (file : List ℕ) where
   ranges : (number p : ℕ) → FirstReason checkingOrder (Reason file) number p → 2 < number → InRange file
   ranges number p r l =
       let (least, most) = reason-range file number p (r .applies) in
-      let two-before = before-is-lower number 2 least most .1 (omega arith, l) in
+      let two-before = lower-before number 2 most (omega arith) l (λ e. omega arith) in
       settled _ (Iff·trans (Any.in-range exchangeLayout file) (ranges-are file)) (λ outside. r .none-before 2 0 two-before (layout-broken (size-outside refl refl outside)))
 
   -- and a place that isn't 0 is within one of its parts.

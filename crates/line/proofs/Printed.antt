@@ -18,7 +18,7 @@ use Rattle.signers.proofs.Each.{signers-are}
 use Rattle.signers.proofs.Joined.{signers-are-principals}
 use Rattle.record.specs.declared.verdict.RecordVerdict.{RecordVerdict}
 use Rattle.record.specs.declared.verdict.RecordVerdict.the-variants.{Granted, Refused}
-use Rattle.record.specs.Layout.{heads, seconds, statements, table, signers}
+use Rattle.record.specs.Layout.{heads, seconds, statements, table, saysLeftNumbers, signers}
 use Rattle.record.specs.Answer.{recordAnswer}
 use Rattle.record.specs.ListAfter.{listAfter}
 use Rattle.record.specs.Promises.{Small}
@@ -91,8 +91,9 @@ one-line file before after before′ after′ answer answer′ g h =
 -- The signers are numbers that a word holds.
 are-words : (file : List ℕ) (k : ℕ) → k ∈ signers file → k < 65536
 are-words file k m =
-    let signs = signers-are (table file) (statements file) .each k .0 m in
-    let l = signers-are-principals (heads file) (seconds file) (statements file) k signs in omega arith
+    let signs = signers-are (table file) (statements file) (saysLeftNumbers file) .each k .0 m in
+    let l = signers-are-principals (heads file) (seconds file) (statements file) (saysLeftNumbers file) k signs in
+    omega arith
 
 -- A line that fits is written whole.
 pub fits-whole : (before line : List ℕ) {count : ℕ} {after : List ℕ} → length line ≤ length before

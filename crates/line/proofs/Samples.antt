@@ -11,7 +11,8 @@ use Rattle.table.specs.Entry.{entry}
 use Rattle.table.specs.Tests.{entries, wrongEntry, repeatedEntry}
 use Rattle.steps.specs.Step.{opens, step}
 use Rattle.steps.specs.Run.{walk, run}
-use Rattle.signers.specs.Signers.{signers}
+use Rattle.steps.specs.Naming.{isNaming, namedNumbers}
+use Rattle.signers.specs.Signers.{principals, used}
 use Rattle.record.specs.Answer.{recordAnswer}
 use Rattle.exchange.specs.Answer.{exchangeAnswer}
 use Rattle.line.specs.RefusedLine.{refusedLine}
@@ -20,6 +21,7 @@ use Rattle.line.specs.ExchangeLine.{exchangeLine}
 use Rattle.line.specs.Samples.{Samples}
 
 pub samples : Samples
-unfolding listed recordLine refusedLine exchangeLine ascii decimal digits recordAnswer exchangeAnswer fileWords fileOf
-    firstRefusal wrongEntry repeatedEntry first into signers run walk step opens holds entries entry
+unfolding listed recordLine refusedLine exchangeLine ascii decimal digits recordAnswer exchangeAnswer fileWords
+    fileOf firstRefusal wrongEntry repeatedEntry first into principals used namedNumbers isNaming run walk step
+    opens holds entries entry
 samples = refl

@@ -5,6 +5,7 @@ pub mod Judgment
 pub mod Principals
 pub mod Derivation
 pub mod Depth
+pub mod Named
 pub mod Structural
 pub mod OneStep
 pub mod SaysLeft

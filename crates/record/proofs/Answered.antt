@@ -14,7 +14,7 @@ use Rattle.record.specs.Layout.{signers}
 use Rattle.record.specs.Answer.{tests, recordAnswer}
 
 -- A refusal is no grant.
-not-granted : {number p count : ℕ} → Refused number p ≡ Granted count → ⊥
+pub not-granted : {number p count : ℕ} → Refused number p ≡ Granted count → ⊥
 not-granted e = let z : _≡_ {A = ℕ} 0 1 = cc in omega arith
 
 -- Granted: the tests passed; refused: they refused.

@@ -4,20 +4,19 @@ use Prim.Native.Nat.{ℕ, _≤_}
 use native.Mathlib.Omega.{arith}
 use mathlib.Core.Path.{_≡_}
 use mathlib.Core.Logic.{_↔_, Iff·trans}
-use mathlib.Core.List.{List, [], _∷_, _++_}
+use mathlib.Core.List.{List}
 use lib.ListN.{length}
-use Rattle.basics.specs.Refusals.{Test, test, NoneApplies}
+use Rattle.basics.specs.Refusals.{NoneApplies}
 use Rattle.basics.proofs.Asked.{not-less, not-at-most, at0-nowhere}
 use Rattle.file.specs.Layout.{layoutTests}
 use Rattle.file.proofs.LayoutLaws.{none-to-3}
 use Rattle.file.proofs.Outside.{none-outside}
-use Rattle.table.specs.Tests.{entryTests}
 use Rattle.table.proofs.Ordered.{no-fault-ordered}
 use Rattle.table.proofs.Unlike.{not-repeated}
 use Rattle.steps.specs.declared.verdict.WalkVerdict.the-variants.{Closed}
 use Rattle.steps.proofs.Walked.{walked-nowhere}
 use Rattle.record.specs.Layout.{recordLayout, formulas, goal, heads, seconds, statements, table, signers}
-use Rattle.record.specs.Answer.{goalOutside, statementOutside, stepVerdict, tests}
+use Rattle.record.specs.Answer.{stepVerdict, testsTo7, tests}
 use Rattle.record.specs.Proof.{Sized, Keeps}
 use Rattle.record.proofs.LayoutIs.{sized}
 
@@ -25,14 +24,8 @@ use Rattle.record.proofs.LayoutIs.{sized}
 pub none-to-3-is : (file : List ℕ) → NoneApplies (layoutTests recordLayout file) ↔ Sized file
 none-to-3-is file = Iff·trans (none-to-3 recordLayout file) (sized file)
 
--- 1 to 7
-abbrev pub to-7 : List ℕ → List Test
-to-7 file =
-    layoutTests recordLayout file
-    ++ (entryTests (heads file) (seconds file) ++ (test 6 (goalOutside file) ∷ test 7 (statementOutside file) ∷ []))
-
--- None of them applies exactly when the file keeps the layout and its limits.
-pub none-to-7 : (file : List ℕ) → NoneApplies (to-7 file) ↔ Keeps file
+-- None of 1 to 7 applies exactly when the file keeps the layout and its limits.
+pub none-to-7 : (file : List ℕ) → NoneApplies (testsTo7 file) ↔ Keeps file
 none-to-7 file =
     let ordered = no-fault-ordered (table file) in
     let unlike = not-repeated (heads file) (seconds file) in
@@ -67,9 +60,9 @@ none-applies file room =
     let (to, from) = none-to-7 file in
     let fits = at0-nowhere _ (not-less room (length (signers file))) in
     let closes = walked-nowhere (stepVerdict file) in (
-      λ (one, (two, (three, (four, (five, (six, (seven, (eight, (walk, _))))))))).
+      λ (one, (two, (three, (four, (five, (six, (seven, (walk, (eight, _))))))))).
           (to (one, (two, (three, (four, (five, (six, (seven, tt))))))), fits .0 eight, closes .0 walk),
       λ (keeps, room-for, closed).
           let (one, (two, (three, (four, (five, (six, (seven, _))))))) = from keeps in
-          (one, (two, (three, (four, (five, (six, (seven, (fits .1 room-for, (closes .1 closed, tt))))))))),
+          (one, (two, (three, (four, (five, (six, (seven, (closes .1 closed, (fits .1 room-for, tt))))))))),
     )

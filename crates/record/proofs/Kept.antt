@@ -12,12 +12,12 @@ use Rattle.file.proofs.Reasons.{layout-reasons, layout-small}
 use Rattle.table.specs.Tests.{entryTests}
 use Rattle.table.proofs.Reasons.{entry-reasons, entry-small}
 use Rattle.record.specs.Layout.{recordLayout, heads, seconds}
-use Rattle.record.specs.Answer.{goalOutside, statementOutside}
+use Rattle.record.specs.Answer.{goalOutside, statementOutside, testsTo7}
 use Rattle.record.specs.Reasons.{Reason, layout-broken, table-broken, goal-outside, statement-outside}
 use Rattle.record.specs.Reasons.{list-short, stops}
 use Rattle.record.specs.Promises.{KeepsExactly}
 use Rattle.record.proofs.LayoutIs.{ranges-are}
-use Rattle.record.proofs.Keeps.{to-7, none-to-7}
+use Rattle.record.proofs.Keeps.{none-to-7}
 use Rattle.record.proofs.Reasons.{stop-small, six, seven}
 
 module _ (file : List ℕ) (room number p : ℕ) where
@@ -25,13 +25,13 @@ module _ (file : List ℕ) (room number p : ℕ) where
   six-seven = test 6 (goalOutside file) ∷ test 7 (statementOutside file) ∷ []
 
   joined :
-      OneApplies (to-7 file) number p
+      OneApplies (testsTo7 file) number p
       ↔ (OneApplies (layoutTests recordLayout file) number p
       ⊎ (OneApplies (entryTests (heads file) (seconds file)) number p ⊎ OneApplies six-seven number p))
   joined = one-of-three (layoutTests recordLayout file) (entryTests (heads file) (seconds file)) six-seven number p
 
   -- A reason with a number of 7 or less is one of these tests,
-  to-test : number ≤ 7 → Reason file room number p → OneApplies (to-7 file) number p
+  to-test : number ≤ 7 → Reason file room number p → OneApplies (testsTo7 file) number p
   to-test few (layout-broken r) = joined .1 (inl (layout-reasons recordLayout file (ranges-are file) number p .0 r))
   to-test few (table-broken r) = joined .1 (inr (inl (entry-reasons (heads file) (seconds file) number p .0 r)))
   to-test few (goal-outside n z l) = joined .1 (inr (inr (inl (sym n, six file room number p .1 (z, l)))))
@@ -57,13 +57,13 @@ module _ (file : List ℕ) (room number p : ℕ) where
   from-six-seven (inr (inl (n, at))) = (omega arith, statement-outside (sym n) (seven file room number p .0 at))
   from-six-seven (inr (inr none)) = absurd none
 
-  from-test : OneApplies (to-7 file) number p → (number ≤ 7) × Reason file room number p
+  from-test : OneApplies (testsTo7 file) number p → (number ≤ 7) × Reason file room number p
   from-test one = ⊎-elim from-layout (⊎-elim from-table from-six-seven) (joined .0 one)
 
 pub keeps-exactly : KeepsExactly
 keeps-exactly file room =
     let (keeps, none) = none-to-7 file in
-    let (has, has-none) = none-has (to-7 file) in (
+    let (has, has-none) = none-has (testsTo7 file) in (
       λ k number p few r. has (none k) number p (to-test file room number p few r),
       λ no-reason.
           keeps

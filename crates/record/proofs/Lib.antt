@@ -4,10 +4,13 @@ pub mod Lengths
 pub mod Keeps
 pub mod Answered
 pub mod IsProof
+pub mod Carries
 pub mod Granted
 pub mod Reasons
 pub mod Kept
+pub mod Eight
 pub mod Small
 pub mod Longer
 pub mod SameSet
+pub mod Former
 pub mod Samples

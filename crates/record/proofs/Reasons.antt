@@ -24,7 +24,7 @@ use Rattle.steps.proofs.Walked.{walked-applies, walked-follows}
 use Rattle.steps.proofs.Figure1.{refused-where, refused-in-range}
 use Rattle.record.specs.Layout.{recordLayout, formulas, goal, heads, seconds, statements, steps, table, signers}
 use Rattle.record.specs.Answer.{goalOutside, statementOutside, listShort, tests, stepVerdict}
-use Rattle.record.specs.Reasons.{Reason, layout-broken, table-broken, goal-outside, statement-outside, list-short, stops}
+use Rattle.record.specs.Reasons.{Reason, layout-broken, table-broken, goal-outside, statement-outside, stops, list-short}
 use Rattle.record.specs.Promises.{RefusedExactly}
 use Rattle.record.proofs.LayoutIs.{ranges-are}
 use Rattle.record.proofs.Answered.{answer-refused}
@@ -33,11 +33,13 @@ use Rattle.record.proofs.Answered.{answer-refused}
 
 module _ (file : List ℕ) (number p : ℕ) where
   -- The machine refuses where the walk stops,
-  walk-stops : stepVerdict file ≡ Walk.Refused number p ↔ Stop (table file) (steps file) (obligation (statements file) (goal file) ∷ []) number p
+  pub walk-stops :
+      stepVerdict file ≡ Walk.Refused number p
+      ↔ Stop (table file) (steps file) (obligation (statements file) (goal file) ∷ []) number p
   walk-stops = refused-where (table file) (steps file) (obligation (statements file) (goal file) ∷ []) number p
 
   -- by 9 to 15.
-  step-number : stepVerdict file ≡ Walk.Refused number p → (9 ≤ number) × (number ≤ 15) × (p ≤ length (steps file))
+  pub step-number : stepVerdict file ≡ Walk.Refused number p → (9 ≤ number) × (number ≤ 15) × (p ≤ length (steps file))
   step-number = refused-in-range (table file) (steps file) (obligation (statements file) (goal file) ∷ []) number p
 
   pub stop-small :
@@ -59,7 +61,12 @@ module _ (file : List ℕ) (room number p : ℕ) where
 
   -- the tests from 6 on, and all
   abbrev from-6 : List Test
-  from-6 = test 6 (goalOutside file) ∷ test 7 (statementOutside file) ∷ test 8 (listShort file room) ∷ walked (stepVerdict file) ∷ []
+  from-6 =
+      test 6 (goalOutside file)
+      ∷ test 7 (statementOutside file)
+      ∷ walked (stepVerdict file)
+      ∷ test 8 (listShort file room)
+      ∷ []
 
   joined :
       OneApplies (tests file room) number p
@@ -74,14 +81,18 @@ module _ (file : List ℕ) (room number p : ℕ) where
   from-reason (table-broken r) = joined .1 (inr (inl (entry-reasons (heads file) (seconds file) number p .0 r)))
   from-reason (goal-outside n z l) = later (inl (sym n, six .1 (z, l)))
   from-reason (statement-outside n is) = later (inr (inl (sym n, seven .1 is)))
-  from-reason (list-short n z l) = later (inr (inr (inl (sym n, eight .1 (z, l)))))
-  from-reason (stops s) = later (inr (inr (inr (walked-applies (stepVerdict file) number p .1 (walk-stops file number p .1 s)))))
+  from-reason (stops s) =
+      let walk = walked-applies (stepVerdict file) number p .1 (walk-stops file number p .1 s) in
+      later (inr (inr (⊎-elim inl absurd walk)))
+  from-reason (list-short n z l) = later (inr (inr (inr (inl (sym n, eight .1 (z, l))))))
 
   from-6-reason : OneApplies from-6 number p → Reason file room number p
   from-6-reason (inl (n, at)) = let (z, l) = six .0 at in goal-outside (sym n) z l
   from-6-reason (inr (inl (n, at))) = statement-outside (sym n) (seven .0 at)
-  from-6-reason (inr (inr (inl (n, at)))) = let (z, l) = eight .0 at in list-short (sym n) z l
-  from-6-reason (inr (inr (inr walk))) = stops (walk-stops file number p .0 (walked-applies (stepVerdict file) number p .0 walk))
+  from-6-reason (inr (inr (inl walk))) =
+      stops (walk-stops file number p .0 (walked-applies (stepVerdict file) number p .0 (inl walk)))
+  from-6-reason (inr (inr (inr (inl (n, at))))) = let (z, l) = eight .0 at in list-short (sym n) z l
+  from-6-reason (inr (inr (inr (inr none)))) = absurd none
 
   to-reason : OneApplies (tests file room) number p → Reason file room number p
   to-reason one =
@@ -96,8 +107,9 @@ module _ (file : List ℕ) (room number p : ℕ) where
 follows : (file : List ℕ) (room : ℕ) → Follows checkingOrder (tests file room)
 follows file room =
     let range : (n p : ℕ) → stepVerdict file ≡ Walk.Refused n p → (9 ≤ n) × (n ≤ 15) = λ n p e. let (l, m, _) = step-number file n p e in (l, m) in
-    let from-9 = walked-follows (stepVerdict file) range in
-    inl (refl, inl (refl, inl (refl, inl (refl, inl (refl, inl (refl, inl (refl, inl (refl, from-9))))))))
+    let eight = test 8 (listShort file room) ∷ [] in
+    let from-9 = walked-follows (stepVerdict file) range (8 ∷ []) eight (inl (refl, tt)) in
+    inl (refl, inl (refl, inl (refl, inl (refl, inl (refl, inl (refl, inl (refl, from-9)))))))
 
 -- A reason's number is one of it: 1 to 15.
 pub reason-range : (file : List ℕ) (room number p : ℕ) → Reason file room number p → (1 ≤ number) × (number ≤ 15)

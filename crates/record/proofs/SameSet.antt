@@ -16,10 +16,11 @@ use Rattle.steps.specs.Alike.{Alike}
 use Rattle.steps.specs.Obligation.{obligation}
 use Rattle.steps.specs.Run.{walked}
 use Rattle.steps.specs.Figure1.{run}
+use Rattle.steps.specs.Naming.{namedNumbers, isSaysLeft}
 use Rattle.steps.proofs.Figure1.{hypotheses-are-a-set}
 use Rattle.signers.specs.Signers.{signers as signersOf}
 use Rattle.signers.proofs.Each.{same-signers}
-use Rattle.record.specs.Layout.{formulas, goal, statements, steps, table, signers}
+use Rattle.record.specs.Layout.{formulas, goal, statements, steps, table, saysLeftNumbers, signers}
 use Rattle.record.specs.Answer.{goalOutside, statementOutside, listShort, tests, stepVerdict, recordAnswer}
 use Rattle.record.specs.Proof.{Sized}
 use Rattle.record.specs.Promises.{SameSet, StatementsAreASet, StatedTwice}
@@ -44,8 +45,9 @@ module _ (file other : List ℕ) (s : SameSet file other) where
   -- They have the same signers,
   same-names : signers file ≡ signers other
   same-names =
-      same-signers (table file) (statements file) (statements other) (s .same-statements)
-      ∙ ap (λ (es : List Entry). signersOf es (statements other)) same-table
+      same-signers (table file) (statements file) (statements other) (saysLeftNumbers file) (s .same-statements)
+      ∙ ap₂ (λ (es : List Entry) (ws : List ℕ). signersOf es (statements other) (namedNumbers isSaysLeft ws)) same-table
+      (s .same-steps)
 
   -- as many,
   same-count : length (signers file) ≡ length (signers other)
@@ -83,7 +85,7 @@ module _ (file other : List ℕ) (s : SameSet file other) where
         let eighth : listShort file room ≡ listShort other room = cc same-count in
         λ i.
         test 1 (first i) ∷ test 2 (second i) ∷ test 3 (third i) ∷ test 4 (fourth i) ∷ test 5 (fifth i) ∷ test 6 (sixth i) ∷ test 7 (seventh i)
-        ∷ test 8 (eighth i) ∷ walked (same-verdict i) ∷ []
+        ∷ walked (same-verdict i) ∷ test 8 (eighth i) ∷ []
 
     same-answer : recordAnswer file room ≡ recordAnswer other room
     unfolding recordAnswer

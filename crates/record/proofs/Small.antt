@@ -6,7 +6,7 @@ use mathlib.Core.Logic.{Iff·trans}
 use mathlib.Core.List.{List}
 use Rattle.basics.specs.Order.{FirstReason, checkingOrder}
 use Rattle.basics.proofs.Asked.{settled}
-use Rattle.basics.proofs.Order.{before-is-lower}
+use Rattle.basics.proofs.Order.{lower-before}
 use Rattle.file.specs.Reasons.{size-outside}
 use Rattle.file.proofs.LayoutLaws as Any
 use Rattle.file.proofs.LayoutLaws.{part-most}
@@ -15,7 +15,7 @@ use Rattle.table.proofs.Reasons.{entry-small}
 use Rattle.signers.proofs.Joined.{no-more-than-statements}
 use Rattle.record.specs.declared.verdict.RecordVerdict.{RecordVerdict}
 use Rattle.record.specs.declared.verdict.RecordVerdict.the-variants.{Granted, Refused}
-use Rattle.record.specs.Layout.{recordLayout, heads, seconds, statements, table}
+use Rattle.record.specs.Layout.{recordLayout, heads, seconds, statements, table, saysLeftNumbers}
 use Rattle.record.specs.Answer.{recordAnswer}
 use Rattle.record.specs.Proof.{InRange}
 use Rattle.record.specs.Reasons.{Reason, layout-broken, table-broken, goal-outside, statement-outside, list-short, stops}
@@ -30,14 +30,14 @@ module _ (file : List ℕ) (room : ℕ) where
   grant-small count r =
       let counted = r .counted in
       let few = r .keeps .sized .in-range .few-statements in
-      let most = no-more-than-statements (table file) (statements file) in
+      let most = no-more-than-statements (table file) (statements file) (saysLeftNumbers file) in
       omega (arith, part-most recordLayout file 2)
 
   -- A reason after 2 is given of a file whose sizes are in range,
   ranges : (number p : ℕ) → FirstReason checkingOrder (Reason file room) number p → 2 < number → InRange file
   ranges number p r l =
       let (least, most) = reason-range file room number p (r .applies) in
-      let two-before = before-is-lower number 2 least most .1 (omega arith, l) in
+      let two-before = lower-before number 2 most (omega arith) l (λ e. omega arith) in
       settled _ (Iff·trans (Any.in-range recordLayout file) (ranges-are file)) (λ outside. r .none-before 2 0 two-before (layout-broken (size-outside refl refl outside)))
 
   -- and a place that isn't 0 is within one of its parts.

@@ -25,25 +25,25 @@ goalOutside file = at0 (leb (formulas file) (goal file))
 abbrev pub statementOutside : List ℕ → Place
 statementOutside file = outside (formulas file) (statements file)
 
--- "8. The lent list is shorter than the number of signers (place 0)."
-abbrev pub listShort : List ℕ → ℕ → Place
-listShort file room = at0 (ltb room (length (signers file)))
-
 -- 9 to 15: the machine's verdict on the goal's truth from the statements, through all step words
 abbrev pub stepVerdict : List ℕ → WalkVerdict
 stepVerdict file = run (table file) (steps file) (obligation (statements file) (goal file) ∷ [])
 
--- 1 to 15, in 01's order: 1 to 3 by the layout (file/specs/Layout.antt), 4 and 5 of the table (table/specs/Tests.antt),
--- and the walk as the last.
-abbrev pub tests : List ℕ → ℕ → List Test
-tests file room =
+-- "8. The lent list is shorter than the number of signers (place 0)."
+abbrev pub listShort : List ℕ → ℕ → Place
+listShort file room = at0 (ltb room (length (signers file)))
+
+-- 1 to 7, of which none looks at the steps or the lent list: 1 to 3 by the layout (file/specs/Layout.antt), 4 and 5 of
+-- the table (table/specs/Tests.antt)
+abbrev pub testsTo7 : List ℕ → List Test
+testsTo7 file =
     layoutTests recordLayout file
     ++ (entryTests (heads file) (seconds file)
-    ++ (test 6 (goalOutside file)
-    ∷ test 7 (statementOutside file)
-    ∷ test 8 (listShort file room)
-    ∷ walked (stepVerdict file)
-    ∷ []))
+    ++ (test 6 (goalOutside file) ∷ test 7 (statementOutside file) ∷ []))
+
+-- all, in order: "Refusal 8 .. is tested after 15" (02, job 3)
+abbrev pub tests : List ℕ → ℕ → List Test
+tests file room = testsTo7 file ++ (walked (stepVerdict file) ∷ test 8 (listShort file room) ∷ [])
 
 -- "Granted gives their count", the signers'.
 unfoldable pub recordAnswer : List ℕ → ℕ → RecordVerdict

@@ -11,6 +11,7 @@ use Rattle.file.specs.Layout as Any
 use Rattle.file.specs.Layout.{Layout, range, unranged, partOf}
 use Rattle.table.specs.declared.entry.Entry.{Entry}
 use Rattle.table.specs.Tests.{entries}
+use Rattle.steps.specs.Naming.{namedNumbers, isSaysLeft}
 use Rattle.signers.specs.Signers as S
 
 -- F, S, N and the goal; the parts have F, F, S and N words
@@ -64,9 +65,14 @@ pub record LayoutIs (file : List ℕ) : Type 0 where
   pub most-is : mostBytes ≡ 49672
   pub least-is : Any.leastBytes recordLayout ≡ 8
 
--- the table taken apart, and the signers
+-- the table taken apart
 abbrev pub table : List ℕ → List Entry
 table file = entries (heads file) (seconds file)
 
+-- the formulas that some says left names
+abbrev pub saysLeftNumbers : List ℕ → List ℕ
+saysLeftNumbers file = namedNumbers isSaysLeft (steps file)
+
+-- "A signer is now a principal K with a statement K says A that some says-left step names." (02, job 3)
 abbrev pub signers : List ℕ → List ℕ
-signers file = S.signers (table file) (statements file)
+signers file = S.signers (table file) (statements file) (saysLeftNumbers file)

@@ -32,6 +32,12 @@ GrantedExactly = (file : List ℕ) (room count : ℕ) → recordAnswer file room
 abbrev pub RefusedExactly : Type 0
 RefusedExactly = (file : List ℕ) (room number p : ℕ) → recordAnswer file room ≡ Refused number p ↔ FirstReason checkingOrder (Reason file room) number p
 
+-- "Refusal 8 counts these and is tested after 15" (02, job 3): it is for a file that a longer list would have granted.
+abbrev pub EightExactly : Type 0
+EightExactly =
+    (file : List ℕ) (room p : ℕ)
+    → recordAnswer file room ≡ Refused 8 p ↔ ((p ≡ 0) × Keeps file × IsProof file × (room < length (signers file)))
+
 -- "keeps the layout and its limits" is that none of 1 to 7 applies.
 abbrev pub KeepsExactly : Type 0
 KeepsExactly = (file : List ℕ) (room : ℕ) → Keeps file ↔ ((number p : ℕ) → number ≤ 7 → ¬ Reason file room number p)

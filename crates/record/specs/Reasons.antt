@@ -1,4 +1,4 @@
--- What each refusal says of a file, in the order and with the places of 01's list. Assumes nothing.
+-- What each refusal says of a file, in the checking order and with the places of 01's list. Assumes nothing.
 use Prim.Native.Nat.{ℕ, _≤_, _<_}
 use mathlib.Core.Path.{_≡_}
 use mathlib.Core.List.{List, [], _∷_}
@@ -24,8 +24,8 @@ pub data Reason (file : List ℕ) (room number p : ℕ) : Type 0 where
   statement-outside :
       number ≡ 7 → IsFirst (λ i. formulas file ≤ getD (statements file) i 0) (length (statements file)) p
       → Reason file room number p
-  -- "8. The lent list is shorter than the number of signers (place 0)."
-  list-short : number ≡ 8 → p ≡ 0 → room < length (signers file) → Reason file room number p
   -- 9 to 14, which "run in this order at each step, steps in file order", and 15: the walk stops at p
   -- (steps/specs/Stops.antt has what each says). It stops at one place for one reason, so of these at most one applies.
   stops : Stop (table file) (steps file) (obligation (statements file) (goal file) ∷ []) number p → Reason file room number p
+  -- "8. The lent list is shorter than the number of signers (place 0)." It "is tested after 15" (02, job 3).
+  list-short : number ≡ 8 → p ≡ 0 → room < length (signers file) → Reason file room number p

@@ -65,9 +65,9 @@ Samples = Hold rows
 -- "Refused, in checking order": each of 1 to 8, and where two apply the first counts. In order: no byte at all; F is 0,
 -- and the length is wrong; a word too many; N and M, as records; a repeated entry at 1 and a wrong one at 2; the goal
 -- and a statement of F or more; a statement of F or more at 1; A's statement, goal and steps with no room for the
--- signer, and the same with a wrong step; and B with no room, which it needs none of. Then
--- the limits of F, S and N, and one past each: within them the length is wrong. And a goal of 65,535, which 2 doesn't
--- look at.
+-- signer, with a wrong step, and with a step too many, both of which stand before 8; and B with no room, which it needs
+-- none of. Then the limits of F, S and N, and one past each: within them the length is wrong. And a goal of 65,535,
+-- which 2 doesn't look at.
 abbrev pub order : List Sample
 order =
     refuses [] 256 1 0
@@ -79,7 +79,8 @@ order =
     ∷ refuses (overT (3 ∷ []) 3 (0 ∷ [])) 256 6 0
     ∷ refuses (overT (0 ∷ 3 ∷ []) 0 (0 ∷ [])) 256 7 1
     ∷ refuses (overT (1 ∷ []) 1 (40960 ∷ 45057 ∷ 4096 ∷ 0 ∷ [])) 0 8 0
-    ∷ refuses (overT (1 ∷ []) 1 (49152 ∷ [])) 0 8 0
+    ∷ refuses (overT (1 ∷ []) 1 (49152 ∷ [])) 0 11 0
+    ∷ refuses (overT (1 ∷ []) 1 (40960 ∷ 45057 ∷ 4096 ∷ 0 ∷ 0 ∷ [])) 0 15 4
     ∷ grants (overT (0 ∷ []) 1 (40960 ∷ 4096 ∷ 0 ∷ [])) 0 []
     ∷ refuses (1 ∷ 0 ∷ 1 ∷ 0 ∷ []) 256 3 0
     ∷ refuses (4096 ∷ 256 ∷ 16384 ∷ 0 ∷ []) 256 3 0
@@ -109,13 +110,25 @@ Bytes =
     map (λ file. recordAnswer file 256) (bytesOfA ∷ (2 ∷ []) ∷ (2 ∷ 0 ∷ 1 ∷ 0 ∷ 4 ∷ 0 ∷ 1 ∷ []) ∷ [])
     ≡ Granted 1 ∷ Refused 1 0 ∷ Refused 1 0 ∷ []
 
--- What a call leaves of three words that are lent: A's signer stands first and the others are as they were, two signers
--- stand in the first two, and C, refused, changes nothing.
+-- The table T, and 3 is 1 and 2: from these statements what 7 and 8 both say, by opening both papers.
+abbrev pub forBoth : List ℕ → List ℕ
+forBoth statements =
+    4 ∷ length statements ∷ 9 ∷ 3
+    ∷ 0 ∷ 20487 ∷ 20488 ∷ 12289
+    ∷ 0 ∷ 0 ∷ 0 ∷ 2
+    ∷ statements ++ (20480 ∷ 40960 ∷ 45057 ∷ 4096 ∷ 0 ∷ 40960 ∷ 45058 ∷ 4096 ∷ 0 ∷ [])
+
+abbrev pub bothOpened : List ℕ
+bothOpened = forBoth (2 ∷ 1 ∷ [])
+
+-- What a call leaves of three words that are lent: A's signer stands first and the others are as they were, also where
+-- a paper of 8 lies unused; two signers stand in the first two; and C, refused, changes nothing.
 abbrev pub Lists : Type 0
 Lists =
     map (λ words. listAfter (fileOf words) (recordAnswer (fileOf words) 3) (9 ∷ 5 ∷ 6 ∷ []))
     (overT (1 ∷ []) 1 (40960 ∷ 45057 ∷ 4096 ∷ 0 ∷ [])
     ∷ overT (2 ∷ 1 ∷ []) 1 (40960 ∷ 45057 ∷ 4096 ∷ 0 ∷ [])
+    ∷ bothOpened
     ∷ overT (1 ∷ []) 0 (45057 ∷ [])
     ∷ [])
-    ≡ (7 ∷ 5 ∷ 6 ∷ []) ∷ (7 ∷ 8 ∷ 6 ∷ []) ∷ (9 ∷ 5 ∷ 6 ∷ []) ∷ []
+    ≡ (7 ∷ 5 ∷ 6 ∷ []) ∷ (7 ∷ 5 ∷ 6 ∷ []) ∷ (7 ∷ 8 ∷ 6 ∷ []) ∷ (9 ∷ 5 ∷ 6 ∷ []) ∷ []

@@ -1,4 +1,5 @@
--- 2 and 4 to 15 in one: each answer of the code is a case of `contentTests`, and so of `arraysAnswer`. Assumes nothing.
+-- 2 and 4 to 15, and 8, in one: each answer of the code is a case of `contentTests`, and so of `arraysAnswer`. Assumes
+-- nothing.
 use Prim.Native.Nat.{ℕ}
 use mathlib.Core.Path.{_≡_, sym, ap, _∙_}
 use mathlib.Core.List.{List, [], _∷_}
@@ -17,38 +18,38 @@ module _ (heads seconds statements : List ℕ) (goal : ℕ) (steps : List ℕ) (
   abbrev to-7 : List Test
   to-7 = partTests heads seconds statements goal
 
+  abbrev only-walk : List Test
+  only-walk = stepTest heads seconds statements goal steps ∷ []
+
   abbrev only-8 : List Test
-  only-8 = roomTest heads seconds statements room ∷ []
+  only-8 = roomTest heads seconds statements steps room ∷ []
 
   abbrev from-9 : List Test
-  from-9 = stepTest heads seconds statements goal steps ∷ []
-
-  abbrev from-8 : List Test
-  from-8 = roomTest heads seconds statements room ∷ from-9
+  from-9 = stepTest heads seconds statements goal steps ∷ only-8
 
   module _ {t : Tested} (parts : t ≡ firstRefusal to-7) where
     pub refused-to-7 : {number p : ℕ} → t ≡ Outcome.Refused number p → Outcome.Refused number p ≡ all
-    refused-to-7 e = sym (joined-refused to-7 from-8 (sym parts ∙ e))
+    refused-to-7 e = sym (joined-refused to-7 from-9 (sym parts ∙ e))
 
-    module _ (passed-7 : t ≡ Outcome.Passed) {u : Tested} (listed : u ≡ firstRefusal only-8) where
-      after-7 : firstRefusal from-8 ≡ all
-      after-7 = sym (joined-passed to-7 from-8 (sym parts ∙ passed-7))
+    module _ (passed-7 : t ≡ Outcome.Passed) {u : Tested} (walk : u ≡ firstRefusal only-walk) where
+      after-7 : firstRefusal from-9 ≡ all
+      after-7 = sym (joined-passed to-7 from-9 (sym parts ∙ passed-7))
 
-      pub refused-8 : {number p : ℕ} → u ≡ Outcome.Refused number p → Outcome.Refused number p ≡ all
-      refused-8 e = sym (joined-refused only-8 from-9 (sym listed ∙ e)) ∙ after-7
+      pub refused-by-walk : {number p : ℕ} → u ≡ Outcome.Refused number p → Outcome.Refused number p ≡ all
+      refused-by-walk e = sym (joined-refused only-walk only-8 (sym walk ∙ e)) ∙ after-7
 
-      pub by-steps : {v : Tested} → u ≡ Outcome.Passed → v ≡ firstRefusal from-9 → v ≡ all
-      by-steps passed-8 walked = walked ∙ sym (joined-passed only-8 from-9 (sym listed ∙ passed-8)) ∙ after-7
+      pub by-room : {v : Tested} → u ≡ Outcome.Passed → v ≡ firstRefusal only-8 → v ≡ all
+      by-room passed-15 listed = listed ∙ sym (joined-passed only-walk only-8 (sym walk ∙ passed-15)) ∙ after-7
 
   -- what they come to, as an answer
   abbrev answer : Tested → RecordVerdict
-  answer t = unlessRefused Refused t (granted heads seconds statements)
+  answer t = unlessRefused Refused t (granted heads seconds statements steps)
 
   module _ {t : Tested} (judged : t ≡ all) where
     pub refused-by-one : {number p : ℕ} → t ≡ Outcome.Refused number p → Refused number p
         ≡ arraysAnswer heads seconds statements goal steps room
     refused-by-one e = ap answer (sym e ∙ judged)
 
-    pub granted-by-all : {w : RecordVerdict} → t ≡ Outcome.Passed → w ≡ granted heads seconds statements
+    pub granted-by-all : {w : RecordVerdict} → t ≡ Outcome.Passed → w ≡ granted heads seconds statements steps
         → w ≡ arraysAnswer heads seconds statements goal steps room
     granted-by-all e is = is ∙ ap answer (sym e ∙ judged)

@@ -10,19 +10,22 @@ use Rattle.basics.specs.declared.tested.Tested.the-variants.{Passed, Refused}
 use Rattle.basics.specs.Refusals.{firstRefusal}
 use Rattle.basics.proofs.Refusals.{applies-at-0, goes-on-at-0, none-left}
 use Rattle.table.specs.Tests.{entries}
-use Rattle.signers.specs.Signers.{signers}
+use Rattle.steps.specs.Naming.{namedNumbers, isSaysLeft}
+use Rattle.signers_write.specs.Arrays.{arraysSigners}
 use Rattle.signers.proofs.Joined.{no-more-than-statements}
 use Rattle.record_check.specs.Parts.{roomTest}
 
-module _ (heads seconds statements : List ℕ) (room : ℕ) where
+module _ (heads seconds statements steps : List ℕ) (room : ℕ) where
   abbrev all : Tested
-  all = firstRefusal (roomTest heads seconds statements room ∷ [])
+  all = firstRefusal (roomTest heads seconds statements steps room ∷ [])
 
-  pub refused-8 : room < length (signers (entries heads seconds) statements) → Refused 8 0 ≡ all
+  pub refused-8 : room < length (arraysSigners heads seconds statements steps) → Refused 8 0 ≡ all
   refused-8 short = sym (applies-at-0 8 [] (lt-ltb _ _ short))
 
-  pub passed-8 : length (signers (entries heads seconds) statements) ≤ room → Passed ≡ all
+  pub passed-8 : length (arraysSigners heads seconds statements steps) ≤ room → Passed ≡ all
   passed-8 enough = sym (goes-on-at-0 8 [] (le-ltb _ _ enough) ∙ none-left)
 
   pub passed-by-S : length statements ≤ room → Passed ≡ all
-  passed-by-S enough = passed-8 (omega (arith, no-more-than-statements (entries heads seconds) statements))
+  passed-by-S enough =
+      let few = no-more-than-statements (entries heads seconds) statements (namedNumbers isSaysLeft steps) in
+      passed-8 (omega arith)

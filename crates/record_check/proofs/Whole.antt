@@ -74,7 +74,8 @@ module _ (file : List ℕ) where
 
     -- what is in the list at the end
     leaves : (before after : List ℕ) (v : RecordVerdict) → v ≡ recordAnswer file (length before)
-        → after ≡ listWritten v (heads file) (seconds file) (statements file) before → after ≡ listAfter file v before
+        → after ≡ listWritten v (heads file) (seconds file) (statements file) (steps file) before
+        → after ≡ listAfter file v before
     leaves before after (Granted count) e w =
         let grant = granted-exactly file (length before) count .0 (sym e) in
         w ∙ written-fits before (signers file) (grant .fits)
@@ -85,12 +86,13 @@ module _ (file : List ℕ) where
     pub whole :
         (before : List ℕ) {hs ss ns ws after : List ℕ} {g : ℕ} {v : RecordVerdict}
         → hs ≡ heads file → ss ≡ seconds file → ns ≡ statements file → g ≡ goal file → ws ≡ steps file
-        → v ≡ arraysAnswer hs ss ns g ws (length before) → after ≡ listWritten v hs ss ns before
+        → v ≡ arraysAnswer hs ss ns g ws (length before) → after ≡ listWritten v hs ss ns ws before
         → (v ≡ recordAnswer file (length before)) × (after ≡ listAfter file v before)
     whole before {hs} {ss} {ns} {ws} {after} {g} {v} eh es en eg ew answered left =
         let one : v ≡ arraysAnswer (heads file) (seconds file) (statements file) (goal file) (steps file) (length before) =
         answered ∙ (λ i. arraysAnswer (eh i) (es i) (en i) (eg i) (ew i) (length before)) in
-        let two : after ≡ listWritten v (heads file) (seconds file) (statements file) before = left ∙ (λ i. listWritten v (eh i) (es i) (en i) before) in
+        let two : after ≡ listWritten v (heads file) (seconds file) (statements file) (steps file) before =
+        left ∙ (λ i. listWritten v (eh i) (es i) (en i) (ew i) before) in
         let is = one ∙ answers (length before) in
         (is, leaves before after v is two)
 

@@ -1,4 +1,4 @@
--- What the parts of the check answer, over arrays of any length: 2 and 4 to 7, 8, 9 to 15, and all of them in order.
+-- What the parts of the check answer, over arrays of any length: 2 and 4 to 7, 9 to 15, 8, and all of them in order.
 -- Assumes nothing.
 use Prim.Native.Nat.{ℕ, _≤_}
 use mathlib.Core.Bool.{Bool, true, not}
@@ -16,7 +16,7 @@ use Rattle.table.specs.Tests.{entries, sized, entryTests}
 use Rattle.steps.specs.Obligation.{obligation}
 use Rattle.steps.specs.Run.{walked}
 use Rattle.steps.specs.Figure1.{run}
-use Rattle.signers.specs.Signers.{signers}
+use Rattle.signers_write.specs.Arrays.{arraysSigners}
 use Rattle.record.specs.declared.verdict.RecordVerdict.{RecordVerdict}
 use Rattle.record.specs.declared.verdict.RecordVerdict.the-variants.{Granted, Refused}
 use Rattle.record.specs.Layout.{goal, heads, seconds, statements, steps}
@@ -51,30 +51,31 @@ partTests heads seconds statements goal =
     ∷ test 7 (outside (length heads) statements)
     ∷ []))
 
--- "8. The lent list is shorter than the number of signers (place 0)."
-abbrev pub roomTest : List ℕ → List ℕ → List ℕ → ℕ → Test
-roomTest heads seconds statements room = test 8 (at0 (ltb room (length (signers (entries heads seconds) statements))))
-
 -- 9 to 15: the goal is to be proved from the statements
 abbrev pub stepTest : List ℕ → List ℕ → List ℕ → ℕ → List ℕ → Test
 stepTest heads seconds statements goal steps =
     walked (run (entries heads seconds) steps (obligation statements goal ∷ []))
 
--- all of them, in order
+-- "8. The lent list is shorter than the number of signers (place 0)."
+abbrev pub roomTest : List ℕ → List ℕ → List ℕ → List ℕ → ℕ → Test
+roomTest heads seconds statements steps room =
+    test 8 (at0 (ltb room (length (arraysSigners heads seconds statements steps))))
+
+-- all of them, in order: "Refusal 8 .. is tested after 15" (02, job 3)
 abbrev pub contentTests : List ℕ → List ℕ → List ℕ → ℕ → List ℕ → ℕ → List Test
 contentTests heads seconds statements goal steps room =
     partTests heads seconds statements goal
-    ++ (roomTest heads seconds statements room ∷ stepTest heads seconds statements goal steps ∷ [])
+    ++ (stepTest heads seconds statements goal steps ∷ roomTest heads seconds statements steps room ∷ [])
 
 -- where no test refuses: granted, with the number of signers
-abbrev pub granted : List ℕ → List ℕ → List ℕ → RecordVerdict
-granted heads seconds statements = Granted (length (signers (entries heads seconds) statements))
+abbrev pub granted : List ℕ → List ℕ → List ℕ → List ℕ → RecordVerdict
+granted heads seconds statements steps = Granted (length (arraysSigners heads seconds statements steps))
 
--- 2 and 4 to 15
+-- 2 and 4 to 15, and 8
 abbrev pub arraysAnswer : List ℕ → List ℕ → List ℕ → ℕ → List ℕ → ℕ → RecordVerdict
 arraysAnswer heads seconds statements goal steps room =
     unlessRefused Refused (firstRefusal (contentTests heads seconds statements goal steps room))
-    (granted heads seconds statements)
+    (granted heads seconds statements steps)
 
 -- Over the arrays of a file that 1 to 3 let pass these are the record's own tests. Proved in proofs/Whole.antt.
 abbrev pub PartsOfRecord : Type 0
@@ -83,7 +84,7 @@ PartsOfRecord =
     → arraysAnswer (heads file) (seconds file) (statements file) (goal file) (steps file) room ≡ recordAnswer file room
 
 -- what is then in the lent list
-abbrev pub listWritten : RecordVerdict → List ℕ → List ℕ → List ℕ → List ℕ → List ℕ
-listWritten (Granted count) heads seconds statements before =
-    written before (signers (entries heads seconds) statements)
-listWritten (Refused number place) heads seconds statements before = before
+abbrev pub listWritten : RecordVerdict → List ℕ → List ℕ → List ℕ → List ℕ → List ℕ → List ℕ
+listWritten (Granted count) heads seconds statements steps before =
+    written before (arraysSigners heads seconds statements steps)
+listWritten (Refused number place) heads seconds statements steps before = before

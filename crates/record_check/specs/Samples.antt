@@ -1,4 +1,4 @@
--- Samples of the parts: what `judge_parts`, `judge_room` and `judge_steps` answer, also for arrays that no file has.
+-- Samples of the parts: what `judge_parts`, `judge_steps` and `judge_room` answer, also for arrays that no file has.
 -- Proved in proofs/Samples.antt, by computation. Assumes nothing.
 use mathlib.Core.Path.{_≡_}
 use mathlib.Core.List.{[], _∷_, map}
@@ -21,17 +21,24 @@ Parts =
     ∷ [])
     ≡ Passed ∷ Refused 2 0 ∷ Refused 2 0 ∷ Refused 2 0 ∷ Refused 6 0 ∷ Refused 7 1 ∷ []
 
--- Principal 7 says atom 0 and principal 8 says it, 7 twice: room for two, and for one. The seconds are an array too
--- long, which adds no entry.
-abbrev pub Room : Type 0
-Room =
-    map
-    (λ room. firstRefusal (roomTest (0 ∷ 20487 ∷ 20488 ∷ []) (0 ∷ 0 ∷ 0 ∷ 0 ∷ []) (1 ∷ 2 ∷ 1 ∷ []) room ∷ []))
-    (2 ∷ 1 ∷ [])
-    ≡ Passed ∷ Refused 8 0 ∷ []
-
 -- no step; the right one; one more
 abbrev pub Steps : Type 0
 Steps =
     map (λ steps. firstRefusal (stepTest (0 ∷ []) (0 ∷ []) (0 ∷ []) 0 steps ∷ [])) ([] ∷ (0 ∷ []) ∷ (0 ∷ 0 ∷ []) ∷ [])
     ≡ Refused 9 0 ∷ Passed ∷ Refused 15 1 ∷ []
+
+-- Principals 7, 8 and 9 say atom 0, and all but 9 have a paper, 7 twice. Says lefts name what 7, 8 and 9 say: room for
+-- two, and for one. They name 7's word alone, and another code names 8's: room for one, and for none. The seconds are
+-- an array too long, which adds no entry.
+abbrev pub Room : Type 0
+Room =
+    map
+    (λ (steps, room).
+    firstRefusal
+    (roomTest (0 ∷ 20487 ∷ 20488 ∷ 20489 ∷ []) (0 ∷ 0 ∷ 0 ∷ 0 ∷ 0 ∷ []) (1 ∷ 2 ∷ 1 ∷ []) steps room ∷ []))
+    ((45057 ∷ 45058 ∷ 45059 ∷ [], 2)
+    ∷ (45057 ∷ 45058 ∷ 45059 ∷ [], 1)
+    ∷ (24578 ∷ 45057 ∷ [], 1)
+    ∷ (24578 ∷ 45057 ∷ [], 0)
+    ∷ [])
+    ≡ Passed ∷ Refused 8 0 ∷ Passed ∷ Refused 8 0 ∷ []

@@ -16,17 +16,23 @@ use file::words::MANY_WORDS;
 use file::words::read_words;
 use file::words::word_at;
 use record::verdict::RecordVerdict;
-use signers::collect::write_signers;
+use signers_write::list::list_signers;
 
 // "Granted gives their count": the signers go into the list, which is long enough since 8 has passed.
-fn grant(heads: &[u16], seconds: &[u16], statements: &[u16], signers: &mut [u16]) -> RecordVerdict
-    ensures { λ r. ⌜ r ≡ granted (now (heads .entry)) (now (seconds .entry)) (now (statements .entry)) ⌝ }
-    ensures { λ r. ⌜ now (signers .exit) ≡ listWritten r (now (heads .entry)) (now (seconds .entry)) (now (statements .entry)) (now (signers .entry)) ⌝ }
+fn grant(
+    heads: &[u16],
+    seconds: &[u16],
+    statements: &[u16],
+    steps: &[u16],
+    signers: &mut [u16],
+) -> RecordVerdict
+    ensures { λ r. ⌜ r ≡ granted (now (heads .entry)) (now (seconds .entry)) (now (statements .entry)) (now (steps .entry)) ⌝ }
+    ensures { λ r. ⌜ now (signers .exit) ≡ listWritten r (now (heads .entry)) (now (seconds .entry)) (now (statements .entry)) (now (steps .entry)) (now (signers .entry)) ⌝ }
 {
-    RecordVerdict::Granted(write_signers(heads, seconds, statements, signers))
+    RecordVerdict::Granted(list_signers(heads, seconds, statements, steps, signers))
 }
 
-// 2 and 4 to 15, and the signers' list: written only once all tests have passed.
+// 2 and 4 to 15, 8, and the signers' list: written only once all tests have passed.
 fn check_contents(
     heads: &[u16],
     seconds: &[u16],
@@ -36,7 +42,7 @@ fn check_contents(
     signers: &mut [u16],
 ) -> RecordVerdict
     ensures { λ r. ⌜ r ≡ arraysAnswer (now (heads .entry)) (now (seconds .entry)) (now (statements .entry)) goal (now (steps .entry)) (length (now (signers .entry))) ⌝ }
-    ensures { λ r. ⌜ now (signers .exit) ≡ listWritten r (now (heads .entry)) (now (seconds .entry)) (now (statements .entry)) (now (signers .entry)) ⌝ }
+    ensures { λ r. ⌜ now (signers .exit) ≡ listWritten r (now (heads .entry)) (now (seconds .entry)) (now (statements .entry)) (now (steps .entry)) (now (signers .entry)) ⌝ }
 {
     if let Tested::Refused { number, place } = judge_contents(
         heads,
@@ -48,10 +54,10 @@ fn check_contents(
     ) {
         return RecordVerdict::Refused { number, place };
     }
-    grant(heads, seconds, statements, signers)
+    grant(heads, seconds, statements, steps, signers)
 }
 
-// 4 to 15 of a file that 1 to 3 let pass. Its words are read into `words`, which has room for them.
+// 4 to 15, and 8, of a file that 1 to 3 let pass. Its words are read into `words`, which has room for them.
 fn check_sized(file: &[u8], words: &mut [u16], signers: &mut [u16]) -> RecordVerdict
     requires { ⌜ Sized (now file) ⌝ }
     requires { ⌜ length (now file) ≤ 2 * length (now words) ⌝ }

@@ -11,17 +11,18 @@ use Rattle.basics.specs.Membership.{_∈_, _⊆_}
 use Rattle.basics.specs.Rising.{Rising}
 use Rattle.basics.proofs.Membership.{first}
 use Rattle.basics.proofs.Rising.{one-rising}
-use Rattle.signers.proofs.Each.{signers-are, signs-spelled}
+use Rattle.signers.proofs.Each.{signers-are}
 use Rattle.signers.specs.Signers as S
 use Rattle.record.specs.declared.verdict.RecordVerdict.{RecordVerdict}
 use Rattle.record.specs.declared.verdict.RecordVerdict.the-variants.{Granted}
-use Rattle.record.specs.Layout.{table, statements, signers}
+use Rattle.record.specs.Layout.{signers}
 use Rattle.record.specs.ListAfter.{listAfter}
 use Rattle.record.proofs.Granted.{granted-exactly}
 use Rattle.text.specs.Ascii.{ascii}
 use Rattle.text.specs.Decimal.{decimal}
 use Rattle.line.specs.RecordLine.{listed, recordLine}
 use Rattle.demands.specs.Release.{Signers, GrantedWithSigners}
+use Rattle.demands.proofs.Release.{has-signers}
 use Rattle.demands.proofs.Demands.{demands}
 use Rattle.requests.specs.Order.{SignersRise, ReleaseGrants, OrderNotFree, OnePossibleLine, EachOnce, EachOnceIs, CountStays}
 
@@ -31,16 +32,13 @@ pub signers-rise : SignersRise
 signers-rise file before after answer g =
     let grant = granted-exactly file (length before) (g .count) .0 (sym (g .answered) ∙ g .granted) in
     let counted = grant .counted in
-    let are = signers-are (table file) (statements file) in
     let list : after ≡ signers file ++ drop (g .count) before = g .list-after
     ∙ ap (λ v. listAfter file v before) (g .granted) in
     let names : take (g .count) after ≡ signers file =
     ap (take (g .count)) list
     ∙ ap (λ (n : ℕ). take n (signers file ++ drop (g .count) before)) counted
-    ∙ take-append-seam (signers file) (drop (g .count) before) in
-    let spelled = signs-spelled (table file) (grant .keeps .ordered) (statements file) in (
-      subst (λ l. Signers file l) (sym names)
-          (record { each = λ K. Iff·trans (are .each K) (spelled K); rising = are .rising }),
+    ∙ take-append-seam (signers file) (drop (g .count) before) in (
+      subst (λ l. Signers file l) (sym names) (has-signers (grant .keeps) (grant .is-proof)),
       ap length names ∙ sym counted,
     )
 
@@ -127,13 +125,13 @@ rising-once [] r = tt
 rising-once (k ∷ ks) (below, rest) = (λ m. let l = below k m in omega arith, rising-once ks rest)
 
 pub count-stays : CountStays
-count-stays es ns ks each once =
-    let found = signers-are es ns in
-    let to : ks ⊆ S.signers es ns = λ K m. found .each K .1 (each K .0 m) in
-    let from : S.signers es ns ⊆ ks = λ K m. each K .1 (found .each K .0 m) in
+count-stays es ns named ks each once =
+    let found = signers-are es ns named in
+    let to : ks ⊆ S.signers es ns named = λ K m. found .each K .1 (each K .0 m) in
+    let from : S.signers es ns named ⊆ ks = λ K m. each K .1 (found .each K .0 m) in
     omega (
       arith,
-      no-more ks (S.signers es ns) once to,
-      no-more (S.signers es ns) ks
-          (rising-once (S.signers es ns) (found .rising)) from,
+      no-more ks (S.signers es ns named) once to,
+      no-more (S.signers es ns named) ks
+          (rising-once (S.signers es ns named) (found .rising)) from,
     )

@@ -1,4 +1,7 @@
 -- The requests are met (specs/Requests.antt). Assumes nothing.
+use Rattle.record.proofs.Carries.{signers-carry}
+use Rattle.record.proofs.Former.{archive-kept, former-signers-spelled, former-eight}
+use Rattle.record.proofs.Samples.{former-samples}
 use Rattle.line.proofs.Printed.{one-line, line-of-grant}
 use Rattle.sentences.proofs.Text.{text-of-derivation, line-per-step, same-lines, same-text}
 use Rattle.sentences.proofs.Feeds.{feed-per-line}
@@ -6,7 +9,8 @@ use Rattle.sentences.proofs.Samples.{text-of-a, other-numbers, text-of-every-ru
 use Rattle.requests.specs.Requests.{Requests}
 use Rattle.requests.proofs.Order.{signers-rise, release-grants, order-not-free, one-possible-line, count-stays}
 use Rattle.requests.proofs.Sentences.{release-written, else-refused}
-use Rattle.requests.proofs.Samples.{in-order}
+use Rattle.requests.proofs.Carried.{eight-counts, eight-stands}
+use Rattle.requests.proofs.Samples.{in-order, carried}
 
 pub requests : Requests
 requests = record {
@@ -30,4 +34,12 @@ requests = record {
   else-refused = else-refused;
   answers = answers;
   lent-after = lent-after;
+  signers-carry = signers-carry;
+  carried = carried;
+  eight-counts = eight-counts;
+  eight-stands = eight-stands;
+  archive-kept = archive-kept;
+  former-signers-spelled = former-signers-spelled;
+  former-eight = former-eight;
+  former-samples = former-samples;
 }

@@ -2,13 +2,10 @@
 use Prim.Native.Nat.{ℕ, _≤_}
 use native.Mathlib.Omega.{arith}
 use mathlib.Core.Path.{_≡_, refl, sym, ap, _∙_}
-use mathlib.Core.Logic.{Iff·trans}
 use mathlib.Core.List.{List, _++_}
 use lib.ListN.{length, drop}
 use Rattle.basics.specs.Order.{FirstReason}
-use Rattle.signers.proofs.Each.{signers-are, signs-spelled}
-use Rattle.record.specs.Layout.{table, statements, signers}
-use Rattle.record.specs.Proof.{Keeps}
+use Rattle.record.specs.Layout.{signers}
 use Rattle.record.specs.Promises.{GrantSays}
 use Rattle.sentences.specs.declared.verdict.SentencesVerdict.{SentencesVerdict}
 use Rattle.sentences.specs.declared.verdict.SentencesVerdict.the-variants.{Written, Refused}
@@ -17,23 +14,13 @@ use Rattle.sentences.specs.Promises.{proofText, sentencesOrder, SentencesReason
 use Rattle.sentences.proofs.Text.{text-of-derivation}
 use Rattle.sentences.proofs.Answer.{written-exactly}
 use Rattle.sentences.proofs.Refused.{refused-exactly}
-use Rattle.demands.specs.Release.{Signers, Release}
+use Rattle.demands.specs.Release.{Release}
+use Rattle.demands.proofs.Release.{has-signers, are-signers}
 use Rattle.requests.specs.Sentences.{Call, ReleaseWritten, ElseRefused}
-use Rattle.requests.proofs.Order.{order-not-free}
-
--- The signers of a file that keeps the layout are those of its statements.
-are-signers : (file : List ℕ) → Keeps file → Signers file (signers file)
-are-signers file keeps =
-    let are = signers-are (table file) (statements file) in
-    let spelled = signs-spelled (table file) (keeps .ordered) (statements file) in
-    record { each = λ K. Iff·trans (are .each K) (spelled K); rising = are .rising }
-
-names-are : (file : List ℕ) (room : ℕ) (r : Release file room) → r .names ≡ signers file
-names-are file room r = order-not-free file (r .names) (signers file) (r .signers) (are-signers file (r .keeps))
 
 pub release-written : ReleaseWritten
 release-written file list list′ text text′ answer call r fits =
-    let names = names-are file (length list) r in
+    let names = are-signers (r .keeps) (r .is-proof) (r .signers) in
     let count = ap length names in
     let room = r .fits in
     let size : ℕ = length (proofText (r .is-proof)) in
@@ -60,7 +47,7 @@ written-release file room bytes count written e =
         keeps = g .keeps;
         is-proof = g .is-proof;
         names = signers file;
-        signers = are-signers file (g .keeps);
+        signers = has-signers (g .keeps) (g .is-proof);
         fits = g .fits;
       },
       w .fits,

@@ -42,8 +42,8 @@ OnePossibleLine =
     → GrantedWithSigners file answer before after → GrantedWithSigners file answer′ before′ after′
     → recordLine answer after ≡ recordLine answer′ after′
 
--- What stays: 01 asked for the signers "each once, in any order". In any order there are as many, so the count that 8
--- and a grant speak of is 01's.
+-- What stays: 01 asked for the signers "each once, in any order". In any order there are as many, so their order makes
+-- no other count for 8 and for a grant.
 abbrev pub EachOnce : List ℕ → Type 0
 EachOnce [] = Unit
 EachOnce (k ∷ ks) = (¬ (k ∈ ks)) × EachOnce ks
@@ -53,5 +53,5 @@ EachOnceIs = EachOnce (8 ∷ 7 ∷ 9 ∷ []) × (¬ EachOnce (7 ∷ 8 ∷ 7 ∷ 
 
 abbrev pub CountStays : Type 0
 CountStays =
-    (es : List Entry) (statements ks : List ℕ) → ((K : ℕ) → K ∈ ks ↔ Signs es statements K) → EachOnce ks
-    → length ks ≡ length (signers es statements)
+    (es : List Entry) (statements named ks : List ℕ) → ((K : ℕ) → K ∈ ks ↔ Signs es statements named K) → EachOnce ks
+    → length ks ≡ length (signers es statements named)

@@ -1,13 +1,16 @@
 -- What document 02 asks for, request by request, sentence by sentence, as one promise. Proved in proofs/Requests.antt.
 -- `Grants` is a call that grants a file: its answer and its list are what the contract of `check_record` says, as for
 -- every release. `Call` is any call of `write_sentences`. Assumes nothing.
+use Rattle.record.specs.Carries.{SignersCarry}
+use Rattle.record.specs.Former.{FormerSignersSpelled, FormerEight, ArchiveKept, FormerSamples}
 use Rattle.line.specs.Printed.{OneLine, LineOfGrant}
 use Rattle.sentences.specs.Promises.{TextOfDerivation, LinePerStep, SameLines, SameText}
 use Rattle.sentences.specs.Feeds.{FeedPerLine}
 use Rattle.sentences.specs.Samples.{TextOfA, OtherNumbers, TextOfEveryRule, Answers, LentAfter}
 use Rattle.requests.specs.Order.{SignersRise, ReleaseGrants, OrderNotFree, OnePossibleLine, CountStays}
 use Rattle.requests.specs.Sentences.{ReleaseWritten, ElseRefused}
-use Rattle.requests.specs.Samples.{InOrder}
+use Rattle.requests.specs.Carried.{EightCounts, EightStands}
+use Rattle.requests.specs.Samples.{InOrder, Carried}
 
 pub record Requests : Type 0 where
   -- Job 1. "Signers shall stand in rising principal number."
@@ -41,3 +44,16 @@ pub record Requests : Type 0 where
   pub else-refused : ElseRefused
   pub answers : Answers
   pub lent-after : LentAfter
+  -- Job 3. "A paper that lay unused makes no signer. A signer is now a principal K with a statement K says A that some
+  -- says-left step names": over the derivation that the words are, and samples.
+  pub signers-carry : SignersCarry
+  pub carried : Carried
+  -- "Refusal 8 counts these and is tested after 15 and before 16."
+  pub eight-counts : EightCounts
+  pub eight-stands : EightStands
+  -- "Records in the archive keep their granted or refused, save that a short list may now suffice": against the answer
+  -- that 01 gave.
+  pub archive-kept : ArchiveKept
+  pub former-signers-spelled : FormerSignersSpelled
+  pub former-eight : FormerEight
+  pub former-samples : FormerSamples

@@ -1,24 +1,64 @@
 -- Samples of the requests: whole files and the lines that the program prints. Proved in proofs/Samples.antt, by
 -- computation. Assumes nothing.
+use Prim.Native.Nat.{ℕ}
 use mathlib.Core.Path.{_≡_}
-use mathlib.Core.List.{List, [], _∷_, map}
+use mathlib.Core.List.{List, [], _∷_, _++_, map}
+use lib.ListN.{length}
 use Rattle.text.specs.Ascii.{ascii}
-use Rattle.record.specs.Samples.{overT}
+use Rattle.record.specs.Samples.{overT, forBoth, bothOpened}
 use Rattle.demands.specs.Samples.{Sample, a-record, _prints_, lineOf}
 
--- Job 1, with A's steps: papers of principals 8 and then 7; of 4,095, 10, 9 and 0; of 8, with 7's between.
+-- 1 and 2 of table T as an order, 3, and A's goal: and left, and then the word of 7 that it adds
+abbrev pub fromBoth : List ℕ → List ℕ
+fromBoth statements =
+    4 ∷ length statements ∷ 5 ∷ 1
+    ∷ 0 ∷ 20487 ∷ 20488 ∷ 12289
+    ∷ 0 ∷ 0 ∷ 0 ∷ 2
+    ∷ statements ++ (40960 ∷ 24579 ∷ 45057 ∷ 4096 ∷ 0 ∷ [])
+
+-- Job 1: papers of principals 8 and then 7, both opened; of 4,095, 10, 9 and 0, for what all four say; of 8, with 7's
+-- between.
 abbrev pub inOrder : List Sample
 inOrder =
-    a-record (overT (2 ∷ 1 ∷ []) 1 (40960 ∷ 45057 ∷ 4096 ∷ 0 ∷ [])) prints "granted 2 7 8\n"
+    a-record bothOpened prints "granted 2 7 8\n"
     ∷ a-record
-    (5 ∷ 4 ∷ 4 ∷ 4
-    ∷ 0 ∷ 24575 ∷ 20490 ∷ 20489 ∷ 20480
-    ∷ 0 ∷ 0 ∷ 0 ∷ 0 ∷ 0
+    (8 ∷ 4 ∷ 19 ∷ 7
+    ∷ 0 ∷ 24575 ∷ 20490 ∷ 20489 ∷ 20480 ∷ 12289 ∷ 12293 ∷ 12294
+    ∷ 0 ∷ 0 ∷ 0 ∷ 0 ∷ 0 ∷ 2 ∷ 3 ∷ 4
     ∷ 1 ∷ 2 ∷ 3 ∷ 4
+    ∷ 20480 ∷ 20480 ∷ 20480
+    ∷ 40960 ∷ 45057 ∷ 4096 ∷ 0
+    ∷ 40960 ∷ 45058 ∷ 4096 ∷ 0
+    ∷ 40960 ∷ 45059 ∷ 4096 ∷ 0
     ∷ 40960 ∷ 45060 ∷ 4096 ∷ 0 ∷ [])
     prints "granted 4 0 9 10 4095\n"
-    ∷ a-record (overT (2 ∷ 1 ∷ 2 ∷ []) 1 (40960 ∷ 45057 ∷ 4096 ∷ 0 ∷ [])) prints "granted 2 7 8\n"
+    ∷ a-record (forBoth (2 ∷ 1 ∷ 2 ∷ [])) prints "granted 2 7 8\n"
     ∷ []
 
+-- each sample prints its line
+abbrev pub Print : List Sample → Type 0
+Print samples = map (λ r. lineOf (r .file)) samples ≡ map (λ r. ascii (r .line)) samples
+
 abbrev pub InOrder : Type 0
-InOrder = map (λ r. lineOf (r .file)) inOrder ≡ map (λ r. ascii (r .line)) inOrder
+InOrder = Print inOrder
+
+-- Job 3. With A's steps: beside the paper of 7, which they open, one of 8 lies unused. With B's steps: the paper of 7
+-- lies unused, though 7 affirms. Then 3 is 1 and 2, an order: and left adds 7's word, and says left opens it; with no
+-- paper nobody signs, and with a paper of 7 he does. And two papers of 7, of which the second is opened.
+abbrev pub carried : List Sample
+carried =
+    a-record (overT (2 ∷ 1 ∷ []) 1 (40960 ∷ 45057 ∷ 4096 ∷ 0 ∷ [])) prints "granted 1 7\n"
+    ∷ a-record (overT (1 ∷ 0 ∷ []) 1 (40960 ∷ 4096 ∷ 0 ∷ [])) prints "granted 0\n"
+    ∷ a-record (fromBoth (3 ∷ [])) prints "granted 0\n"
+    ∷ a-record (fromBoth (3 ∷ 1 ∷ [])) prints "granted 1 7\n"
+    ∷ a-record
+    (4 ∷ 2 ∷ 4 ∷ 2
+    ∷ 0 ∷ 1 ∷ 20487 ∷ 20487
+    ∷ 0 ∷ 0 ∷ 0 ∷ 1
+    ∷ 3 ∷ 2
+    ∷ 40960 ∷ 45058 ∷ 4096 ∷ 0 ∷ [])
+    prints "granted 1 7\n"
+    ∷ []
+
+abbrev pub Carried : Type 0
+Carried = Print carried

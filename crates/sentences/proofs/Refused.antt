@@ -1,78 +1,54 @@
 -- A file is refused by the first reason in the order that applies (specs/Promises.antt, `RefusedExactly`): by the
 -- record's own first reason, or, where the record is granted, by 16. Assumes nothing.
-use Prim.Native.Nat.{ℕ, _≤_, _<_}
+use Prim.Native.Nat.{ℕ}
 use native.Mathlib.Omega.{arith}
-use mathlib.Core.Bool.{Bool, true, false, true≢false}
+use mathlib.Core.Bool.{Bool, true, false}
 use mathlib.Core.Path.{_≡_, refl, sym, ap, subst, _∙_}
-use mathlib.Core.Logic.{⊎-elim}
-use mathlib.Core.List.{List, [], _∷_, _++_, List·Memᴰ·cases-cons, List·Memᴰ·not-nil}
+use mathlib.Core.List.{List, [], _∷_}
 use lib.ListN.{length}
-use lib.Dec.{eqb, ltb}
-use borrow.Author.Tests.{eq-eqb}
+use lib.Dec.{ltb}
 use Rattle.basics.specs.Choice.{pick}
 use Rattle.basics.specs.Membership.{_∈_}
 use Rattle.basics.specs.Order.{FirstReason, checkingOrder, before}
 use Rattle.basics.proofs.Asked.{less}
-use Rattle.basics.proofs.Choice.{pick-cases}
 use Rattle.basics.proofs.Refusals.{passed-by-all}
-use Rattle.basics.proofs.Order.{none-has, row, in-row, in-checking-order, before-is-lower}
+use Rattle.basics.proofs.Order.{none-has, before-joined, before-in, in-checking-order, of-checking-order}
 use Rattle.record.specs.declared.verdict.RecordVerdict.{RecordVerdict}
 use Rattle.record.specs.declared.verdict.RecordVerdict.the-variants as Verdict
 use Rattle.record.specs.Answer as Record
 use Rattle.record.specs.Answer.{recordAnswer}
-use Rattle.record.specs.Proof.{Keeps, IsProof}
 use Rattle.record.specs.Reasons.{Reason}
 use Rattle.record.proofs.Answered.{answer-granted}
 use Rattle.record.proofs.Granted.{granted-exactly}
 use Rattle.record.proofs.Reasons as Reasons
 use Rattle.record.proofs.Reasons.{reasons, reason-range}
-use Rattle.sentences.specs.declared.verdict.SentencesVerdict.{SentencesVerdict}
 use Rattle.sentences.specs.declared.verdict.SentencesVerdict.the-variants.{Written, Refused}
-use Rattle.sentences.specs.Answer.{recordText, sentencesAnswer, afterRecord}
-use Rattle.sentences.specs.Promises.{proofText, sentencesOrder, SentencesReason, of-record, text-short, RefusedExactly}
+use Rattle.sentences.specs.Answer.{recordText, afterRecord}
+use Rattle.sentences.specs.Promises.{sentencesOrder, SentencesReason, of-record, text-short, RefusedExactly}
 use Rattle.sentences.proofs.Answer.{not-written, answer-after-record}
 use Rattle.sentences.proofs.Text.{text-of-derivation}
 
 -- ---- the order
-
--- Before one of the first numbers stand those of the first.
-before-joined : (ns more : List ℕ) (number : ℕ) → number ∈ ns → before (ns ++ more) number ≡ before ns number
-unfolding before
-before-joined [] more number m = absurd (List·Memᴰ·not-nil m)
-before-joined (n ∷ ns) more number m = by (before-joined ns more number) (eqb n number) refl
-  where
-    later : eqb n number ≡ false → number ∈ ns
-    later e = ⊎-elim (λ q. absurd (true≢false (sym (eq-eqb n number (sym q)) ∙ e))) (λ i. i) (List·Memᴰ·cases-cons m)
-
-    by : (number ∈ ns → before (ns ++ more) number ≡ before ns number) → (b : Bool) → eqb n number ≡ b
-        → pick b [] (n ∷ before (ns ++ more) number) ≡ pick b [] (n ∷ before ns number)
-    by rest true e = refl
-    by rest false e = ap (λ (l : List ℕ). n ∷ l) (rest (later e))
 
 -- Before 16 stand the record's numbers.
 before-16 : before sentencesOrder 16 ≡ checkingOrder
 unfolding before
 before-16 = refl
 
-in-order : (n : ℕ) → (1 ≤ n) × (n ≤ 15) → n ∈ checkingOrder
-unfolding row
-in-order n (least, most) = in-row 1 15 n least (omega arith)
-
 module _ (file : List ℕ) (room bytes : ℕ) where
   -- A reason of the record has one of its numbers, and stands before 16.
   of-order : (number p : ℕ) → Reason file room number p → number ∈ checkingOrder
-  of-order number p r = in-order number (reason-range file room number p r)
+  of-order number p r = let (least, most) = reason-range file room number p r in of-checking-order number least most
 
   before-record : (number p : ℕ) → Reason file room number p → before sentencesOrder number
       ≡ before checkingOrder number
-  before-record number p r = before-joined checkingOrder (16 ∷ []) number (of-order number p r)
+  before-record number p r = before-joined (16 ∷ []) number checkingOrder (of-order number p r)
 
   -- 16 itself stands before none of them.
   not-16 : (number p : ℕ) → Reason file room number p → ¬ (16 ∈ before sentencesOrder number)
   not-16 number p r m =
-      let (least, most) = reason-range file room number p r in
-      let (_, less) = before-is-lower number 16 least most .0
-      (subst (λ (l : List ℕ). 16 ∈ l) (before-record number p r) m) in
+      let (_, most) = in-checking-order 16
+      (before-in checkingOrder number 16 (subst (λ (l : List ℕ). 16 ∈ l) (before-record number p r) m)) in
       omega arith
 
   -- ---- the record is refused

@@ -13,7 +13,8 @@ use Rattle.table.specs.Tests.{entries, wrongEntry, repeatedEntry}
 use Rattle.steps.specs.Step.{opens, step}
 use Rattle.steps.specs.Run.{walk, run}
 use Rattle.steps.specs.Trace.{trace}
-use Rattle.signers.specs.Signers.{signers}
+use Rattle.steps.specs.Naming.{isNaming, namedNumbers}
+use Rattle.signers.specs.Signers.{principals, used}
 use Rattle.sentences.specs.Formula.{propositionText, goalText}
 use Rattle.sentences.specs.Sentences.{ruleName, namedText, lineText, sentencesFrom}
 use Rattle.sentences.specs.Answer.{sentencesAnswer}
@@ -21,31 +22,26 @@ use Rattle.sentences.specs.Samples.{TextOfA, OtherNumbers, TextOfEveryRu
 
 pub text-of-a : TextOfA
 unfolding fileOf fileWords entries entry spelled spelledAfter holds opens step trace ascii digits decimal
-    propositionText
-    goalText ruleName namedText lineText sentencesFrom
+    propositionText goalText ruleName namedText lineText sentencesFrom
 text-of-a = refl
 
 pub other-numbers : OtherNumbers
 unfolding fileOf fileWords entries entry spelled spelledAfter holds opens step trace ascii digits decimal
-    propositionText
-    goalText ruleName namedText lineText sentencesFrom
+    propositionText goalText ruleName namedText lineText sentencesFrom
 other-numbers = refl
 
 pub text-of-every-rule : TextOfEveryRule
 unfolding fileOf fileWords entries entry spelled spelledAfter holds opens step trace ascii digits decimal
-    propositionText
-    goalText ruleName namedText lineText sentencesFrom
+    propositionText goalText ruleName namedText lineText sentencesFrom
 text-of-every-rule = refl
 
 pub answers : Answers
-unfolding sentencesAnswer firstRefusal wrongEntry repeatedEntry first into signers run walk fileOf fileWords entries
-    entry
-    spelled spelledAfter holds opens step trace ascii digits decimal propositionText goalText ruleName namedText
-    lineText
-    sentencesFrom
+unfolding sentencesAnswer firstRefusal wrongEntry repeatedEntry first into principals used namedNumbers isNaming run
+    walk fileOf fileWords entries entry spelled spelledAfter holds opens step trace ascii digits decimal
+    propositionText goalText ruleName namedText lineText sentencesFrom
 answers = (refl, refl, refl, refl)
 
 pub lent-after : LentAfter
-unfolding into signers fileOf fileWords entries entry spelled spelledAfter holds opens step trace ascii digits decimal
-    propositionText goalText ruleName namedText lineText sentencesFrom
+unfolding into principals used namedNumbers isNaming fileOf fileWords entries entry spelled spelledAfter holds opens
+    step trace ascii digits decimal propositionText goalText ruleName namedText lineText sentencesFrom
 lent-after = (refl, refl, refl, refl)

@@ -61,13 +61,13 @@ abbrev pub TextOfEveryRule : Type 0
 TextOfEveryRule = recordText everyRule ≡ ascii textOfEveryRule
 
 -- 16 comes last: A with room for all of its 117 bytes and for one less; with no room for the signer either, 8; and D
--- and H with no room at all, 14 and 15.
+-- with no room at all, 14, and A with a step too many, 15.
 abbrev pub Answers : Type 0
 Answers =
     (map (sentencesAnswer bytesOfA 256) (117 ∷ 116 ∷ 0 ∷ []) ≡ Written 1 117 ∷ Refused 16 0 ∷ Refused 16 0 ∷ [])
     × (map (λ bytes. sentencesAnswer bytesOfA 0 bytes) (117 ∷ 116 ∷ []) ≡ Refused 8 0 ∷ Refused 8 0 ∷ [])
-    × (sentencesAnswer (fileOf (overT (2 ∷ []) 1 (40960 ∷ 45058 ∷ []))) 256 0 ≡ Refused 14 1)
-    × (sentencesAnswer (fileOf (overT (0 ∷ []) 1 (40960 ∷ 4096 ∷ 0 ∷ 0 ∷ []))) 256 0 ≡ Refused 15 3)
+    × (sentencesAnswer (fileOf (overT (2 ∷ []) 1 (40960 ∷ 45058 ∷ []))) 0 0 ≡ Refused 14 1)
+    × (sentencesAnswer (fileOf (overT (1 ∷ []) 1 (40960 ∷ 45057 ∷ 4096 ∷ 0 ∷ 0 ∷ []))) 0 0 ≡ Refused 15 4)
 
 -- A's signer and text stand at the start of what is lent, and what follows stays; after a refusal all stays.
 abbrev pub LentAfter : Type 0

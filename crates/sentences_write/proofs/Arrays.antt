@@ -26,7 +26,7 @@ use Rattle.steps.specs.Obligation.{obligation}
 use Rattle.steps.specs.Figure1.{run}
 use Rattle.steps.proofs.Figure1.{closed-uses-all}
 use Rattle.steps.proofs.Walked.{walked-nowhere}
-use Rattle.signers.specs.Signers.{signers}
+use Rattle.signers_write.specs.Arrays.{arraysSigners}
 use Rattle.record_check.specs.Parts.{contentTests, SizesFit}
 use Rattle.record_check.proofs.PartTests.{sizes-fit-exactly}
 use Rattle.goals.specs.Kept.{linesAt}
@@ -56,7 +56,7 @@ module _ (heads seconds statements : List ℕ) (goal : ℕ) (steps : List ℕ) (
 
     closes : run (entries heads seconds) steps (obligation statements goal ∷ []) ≡ Closed (length steps)
     closes =
-        let (_, (_, (_, (_, (_, (_, (walk, _))))))) = passed-by-all
+        let (_, (_, (_, (_, (_, (walk, _)))))) = passed-by-all
         (contentTests heads seconds statements goal steps room) .0 (sym judged ∙ passed) in
         let (q, closed) = walked-nowhere (run (entries heads seconds) steps (obligation statements goal ∷ [])) .0
         walk in
@@ -79,10 +79,10 @@ module _ (heads seconds statements : List ℕ) (goal : ℕ) (steps : List ℕ) (
     -- where the record's tests pass: by 16
     abbrev by-16 : Bool → SentencesVerdict
     by-16 short = pick short (Refused 16 0)
-        (Written (length (signers (entries heads seconds) statements)) (length text))
+        (Written (length (arraysSigners heads seconds statements steps)) (length text))
 
-    pub refused-to-15 : {number p : ℕ} → t ≡ Outcome.Refused number p → Refused number p ≡ all
-    refused-to-15 e = ap (λ (o : Tested). unlessRefused Refused o (by-16 (ltb bytes (length text)))) (sym e ∙ judged)
+    pub refused-to-8 : {number p : ℕ} → t ≡ Outcome.Refused number p → Refused number p ≡ all
+    refused-to-8 e = ap (λ (o : Tested). unlessRefused Refused o (by-16 (ltb bytes (length text)))) (sym e ∙ judged)
 
     module _ (passed : t ≡ Passed) (few : length steps ≤ mostSteps) {ns bs : List ℕ}
         (numbers : ns ≡ written (replicate mostSteps 0) (numbersOf (goalsOf (entries heads seconds) steps goal)))
@@ -114,7 +114,7 @@ module _ (heads seconds statements : List ℕ) (goal : ℕ) (steps : List ℕ) (
 
           -- all that is written, the text from the start of bytes that are so many
           pub all-written : (before : List ℕ) {after : List ℕ} {count size : ℕ} → n ≤ bytes → bytes ≡ length before
-              → count ≡ length (signers (entries heads seconds) statements)
+              → count ≡ length (arraysSigners heads seconds statements steps)
               → (after ≡ writtenAt before 0 (sentencesFrom 0 (linesAt (entries heads seconds) steps ns bs)))
               × (size ≡ placeAfter before 0 (sentencesFrom 0 (linesAt (entries heads seconds) steps ns bs)))
               → (Written count size ≡ all) × (after ≡ written before text)

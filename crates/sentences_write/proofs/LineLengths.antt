@@ -18,7 +18,8 @@ use Rattle.goals.specs.Kept.{lineAt}
 use Rattle.sentences.specs.Formula.{propositionText, goalText}
 use Rattle.sentences.specs.Sentences.{ruleName, namedText, lineText}
 use Rattle.formula_write.specs.Length.{capped, lengthOf, Holds}
-use Rattle.sentences_write.specs.Naming.{isNaming, namedAt}
+use Rattle.steps.specs.Naming.{isNaming}
+use Rattle.sentences_write.specs.Naming.{namedAt}
 use Rattle.formula_write.proofs.Lengths.{length-after}
 use Rattle.sentences_write.proofs.Named.{named-text}
 

@@ -4,7 +4,7 @@ use mathlib.Core.Bool.{Bool, true, false}
 use mathlib.Core.Path.{_≡_, sym, ap, ap₂, _∙_}
 use mathlib.Core.Option.{some, none}
 use mathlib.Core.List.{List, _++_}
-use lib.ListN.{List·getD-map, List·getD-eq-default}
+use lib.ListN.{List·getD-eq-default}
 use Rattle.basics.specs.Choice.{pick}
 use Rattle.basics.specs.Word.{upper, lower}
 use Rattle.text.specs.Ascii.{ascii}
@@ -15,20 +15,14 @@ use Rattle.table.specs.Spelled.{spell}
 use Rattle.steps.specs.declared.goal.Goal.{Goal}
 use Rattle.steps.specs.Carried.{judgment}
 use Rattle.steps.specs.Figure1.{same}
-use Rattle.steps.specs.Step.{Rule, rules, unknown}
-use Rattle.steps.specs.Trace.{namedBy}
+use Rattle.steps.specs.Naming.{namings, isNaming}
+use Rattle.steps.proofs.Naming.{naming-is-named}
 use Rattle.rules.proofs.Tests.{NoneBelow, past}
 use Rattle.goals.specs.Kept.{lineAt}
 use Rattle.sentences.specs.Formula.{propositionText, goalText}
 use Rattle.sentences.specs.Sentences.{ruleName, namedText, lineText}
-use Rattle.sentences_write.specs.Naming.{namings, isNaming, namedAt, NamingIsNamed}
+use Rattle.sentences_write.specs.Naming.{namedAt}
 use Rattle.formula_write.proofs.Filled.{Filled, filled-as, filled-none}
-
-pub naming-is-named : NamingIsNamed
-unfolding isNaming
-naming-is-named es code n =
-    sym (List·getD-map (λ (r : Rule). namedBy es r n) (rules same es) code unknown)
-    ∙ List·getD-map (λ (b : Bool). pick b (some (spell es n)) none) namings code false
 
 -- Whether a code's rule names a formula, where the code is known, and from 12 on.
 pub naming-of : {code k : ℕ} → code ≡ k → isNaming k ≡ isNaming code
@@ -43,7 +37,7 @@ pub named-text : (es : List Entry) (code n : ℕ) {naming b : Bool} → naming �
     → namedText (pick b (some (spell es n)) none) ≡ namedAt es code n
 named-text es code n e is =
     ap (λ (t : Bool). namedText (pick t (some (spell es n)) none)) (sym is ∙ e)
-    ∙ ap namedText (sym (naming-is-named es code n))
+    ∙ ap namedText (sym (naming-is-named same es code n))
 
 -- A blank and the formula are written where the rule names one,
 pub filled-named : (old : List ℕ) (p : ℕ) (es : List Entry) (code n : ℕ) {naming : Bool} {out : List ℕ} {r : ℕ}

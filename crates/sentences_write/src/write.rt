@@ -18,9 +18,9 @@ use record_check::judge::judge_contents;
 use record_check::layout::MOST_WORDS;
 use record_check::layout::check_layout;
 use sentences::verdict::SentencesVerdict;
-use signers::collect::write_signers;
+use signers_write::list::list_signers;
 
-// 2 and 4 to 16, the text and then the signers' list: written only once all tests have passed.
+// 2 and 4 to 15, 8 and 16, the text and then the signers' list: written only once all tests have passed.
 fn write_contents(
     heads: &[u16],
     seconds: &[u16],
@@ -55,7 +55,7 @@ fn write_contents(
         };
     }
     let bytes = fill_lines(heads, seconds, steps, &numbers, &affirms, text);
-    let count = write_signers(heads, seconds, statements, signers);
+    let count = list_signers(heads, seconds, statements, steps, signers);
     SentencesVerdict::Written {
         signers: count,
         bytes,

@@ -1,93 +1,171 @@
 -- The theorems of specs/Each.antt but NoMoreThanStatements and SignersArePrincipals, which are in Joined.antt. In
--- order: who is listed signs; there is one such list; over propositions they are the principals of what is spelled.
--- Assumes nothing.
-use Prim.Native.Nat.{ℕ}
+-- order: who is listed has a paper; who signs, and that there is one such list; over propositions they are the
+-- principals of what is spelled. Assumes nothing.
+use Prim.Native.Nat.{ℕ, _<_}
 use mathlib.Core.Bool.{false≢true}
-use mathlib.Core.Path.{_≡_, sym, ap, subst, _∙_}
-use mathlib.Core.Logic.{⊎-elim, Iff·symm, Iff·trans}
+use mathlib.Core.Path.{_≡_, refl, sym, ap, subst, _∙_}
+use mathlib.Core.Logic.{_↔_, ⊎-elim, Iff·symm, Iff·trans}
 use mathlib.Core.List.{List, [], _∷_, _++_, List·Memᴰ·head, List·Memᴰ·tail, List·Memᴰ·not-nil, List·Memᴰ·append-cases, List·Memᴰ·eq-of-singleton, Memᴰ·cast, Memᴰ·append-right, Memᴰ·map, Memᴰ·of-map}
-use Rattle.basics.specs.Membership.{_∈_, _⊆_}
+use lib.ListN.{length}
+use Rattle.basics.specs.Choice.{pick}
+use Rattle.basics.specs.Membership.{_∈_, _⊆_, holds}
+use Rattle.basics.proofs.Choice.{pick-cases}
 use Rattle.basics.proofs.Membership.{first, added, ⊆-left}
-use Rattle.basics.proofs.Rising.{one-rising}
+use Rattle.basics.proofs.Rising.{one-rising, rising-length}
 use Rattle.logic.specs.Proposition.{Proposition, _says_}
 use Rattle.table.specs.declared.entry.Entry.{Entry}
 use Rattle.table.specs.declared.entry.Entry.the-variants.{Atom, False, Implies, And, Or, Says, IllFormed}
+use Rattle.table.specs.declared.entry.Formula.{Formula}
 use Rattle.table.specs.Entry.{principal}
+use Rattle.table.specs.Laws.{Ordered}
 use Rattle.table.specs.Tests.{entryAt}
 use Rattle.table.specs.Spelled.{proposition, spelled, spell}
 use Rattle.table.proofs.Spelled.{made-of-operands}
-use Rattle.table.proofs.Shapes.{spell-at}
-use Rattle.signers.specs.Signers.{joined, signers}
-use Rattle.signers.specs.Each.{Signs, SignersAre, OneList, SignsSpelled, SameSigners}
-use Rattle.signers.proofs.Joined.{OfForm, joined-from, joins, stays, joined-rises, signers-rise}
+use Rattle.table.proofs.Shapes.{in-table, spell-at}
+use Rattle.signers.specs.Signers.{joined, principals, used, signers}
+use Rattle.signers.specs.Each.{Signs, SignersAre, OneList, SameSigners, HasPaper, PrincipalsAre, SignersHavePapers, SignsSpelled}
+use Rattle.signers.proofs.Joined.{OfForm, joined-from, joins, stays, joined-rises, principals-rise}
+use Rattle.signers.proofs.Statements.{used-from, used-to, used-last}
+
+-- ---- who has a paper
+
+-- Who has a paper among some statements has one among any that have these.
+paper-more : {es : List Entry} {first second : List ℕ} {K : ℕ} → first ⊆ second → HasPaper es first K
+    → HasPaper es second K
+paper-more all s = record {
+  statement = s .statement;
+  stands = all (s .statement) (s .stands);
+  said = s .said;
+  is = s .is;
+}
+
+module _ (es : List Entry) where
+  -- Who is listed has a paper,
+  listed-paper : (ns : List ℕ) (K : ℕ) → K ∈ principals es ns → HasPaper es ns K
+  unfolding principals
+  listed-paper [] K m = absurd (List·Memᴰ·not-nil m)
+  listed-paper (n ∷ ns) K m = ⊎-elim
+      (λ (f, is). record { statement = n; stands = first; said = f; is = is })
+      (λ i. paper-more (added n) (listed-paper ns K i))
+      (joined-from (principals es ns) (entryAt es n) K m)
+
+  -- and the principal of each statement is listed.
+  paper-listed : {ns : List ℕ} (K n : ℕ) → n ∈ ns → OfForm (entryAt es n) K → K ∈ principals es ns
+  unfolding principals
+  paper-listed K n (List·Memᴰ·head {x = x} {xs = xs} e) o =
+      joins (principals es xs) (subst (λ j. OfForm (entryAt es j) K) e o)
+  paper-listed K n (List·Memᴰ·tail {x = x} {xs = xs} m) o =
+      stays (principals es xs) (entryAt es x) (paper-listed K n m o)
+
+pub principals-are : PrincipalsAre
+principals-are es ns = (
+  λ K. (listed-paper es ns K, λ s. paper-listed es K (s .statement) (s .stands) (s .said, s .is)),
+  principals-rise es ns,
+)
+
+-- The principals of these statements, and of one more at the end.
+principals-last : (es : List Entry) (ns : List ℕ) (n : ℕ)
+    → principals es (ns ++ (n ∷ [])) ≡ joined (principals es ns) (entryAt es n)
+principals-last es ns n =
+    let (each, rising) = principals-are es ns in
+    let (each-last, rising-last) = principals-are es (ns ++ (n ∷ [])) in
+    one-rising (principals es (ns ++ (n ∷ []))) (joined (principals es ns) (entryAt es n)) rising-last
+    (joined-rises (principals es ns) (entryAt es n) rising)
+    (λ K. (
+      λ m.
+          let s = each-last K .0 m in
+          ⊎-elim
+          (λ i. stays (principals es ns) (entryAt es n)
+          (each K .1 (record { statement = s .statement; stands = i; said = s .said; is = s .is })))
+          (λ i. joins (principals es ns) (s .said, ap (entryAt es) (sym (List·Memᴰ·eq-of-singleton i)) ∙ s .is))
+          (List·Memᴰ·append-cases ns (s .stands)),
+      λ m.
+          ⊎-elim
+          (λ (f, is).
+          each-last K .1 (record { statement = n; stands = Memᴰ·append-right ns first; said = f; is = is }))
+          (λ i. each-last K .1 (paper-more (⊆-left (n ∷ [])) (each K .0 i)))
+          (joined-from (principals es ns) (entryAt es n) K m),
+    ))
 
 -- ---- who signs
 
--- Who signs some statements signs any that have these.
-signs-more : {es : List Entry} {first second : List ℕ} {K : ℕ} → first ⊆ second → Signs es first K → Signs es second K
-signs-more all s = record { statement = s .statement; stands = all (s .statement) (s .stands); said = s .said; is = s .is }
-
-module _ (es : List Entry) where
-  -- Who is listed signs,
-  listed-signs : (ns : List ℕ) (K : ℕ) → K ∈ signers es ns → Signs es ns K
-  unfolding signers
-  listed-signs [] K m = absurd (List·Memᴰ·not-nil m)
-  listed-signs (n ∷ ns) K m = ⊎-elim
-      (λ (f, is). record { statement = n; stands = first; said = f; is = is })
-      (λ i. signs-more (added n) (listed-signs ns K i))
-      (joined-from (signers es ns) (entryAt es n) K m)
-
-  -- and the principal of each statement is listed.
-  signs-listed : {ns : List ℕ} (K n : ℕ) → n ∈ ns → OfForm (entryAt es n) K → K ∈ signers es ns
-  unfolding signers
-  signs-listed K n (List·Memᴰ·head {x = x} {xs = xs} e) o =
-      joins (signers es xs) (subst (λ j. OfForm (entryAt es j) K) e o)
-  signs-listed K n (List·Memᴰ·tail {x = x} {xs = xs} m) o = stays (signers es xs) (entryAt es x) (signs-listed K n m o)
+-- A signer has a paper among the statements that are named.
+pub signs-is : (es : List Entry) (ns named : List ℕ) (K : ℕ) → HasPaper es (used named ns) K ↔ Signs es ns named K
+signs-is es ns named K = (
+  λ s.
+      let (stands, among) = used-from named ns (s .statement) (s .stands) in
+      record { statement = s .statement; stands = stands; used = among; said = s .said; is = s .is },
+  λ s. record { statement = s .statement; stands = used-to named (s .stands) (s .used); said = s .said; is = s .is },
+)
 
 pub signers-are : SignersAre
-signers-are es ns = record {
-  each = λ K. (listed-signs es ns K, λ s. signs-listed es K (s .statement) (s .stands) (s .said, s .is));
-  rising = signers-rise es ns;
-}
-
--- ---- one list
+signers-are es ns named =
+    let (each, rising) = principals-are es (used named ns) in
+    record { each = λ K. Iff·trans (each K) (signs-is es ns named K); rising = rising }
 
 pub one-list : OneList
-one-list es ns ks are =
-    let found = signers-are es ns in
-    one-rising ks (signers es ns) (are .rising) (found .rising)
+one-list es ns named ks are =
+    let found = signers-are es ns named in
+    one-rising ks (signers es ns named) (are .rising) (found .rising)
     (λ K. Iff·trans (are .each K) (Iff·symm (found .each K)))
 
-pub same-signers : SameSigners
-same-signers es first second same =
-    let found = signers-are es first in
-    one-list es second (signers es first) (record {
+-- A says-formula is in the table.
+pub says-in-table : (es : List Entry) {K : ℕ} {f : Formula} (n : ℕ) → entryAt es n ≡ Says (principal K) f
+    → n < length es
+says-in-table es {K} {f} n is = in-table es n (Says (principal K) f) is (λ e. false≢true cc)
+
+-- Statements with the same members, of which the same are named as far as the table goes, have the same signers.
+pub alike-signers : (es : List Entry) (ns named ns′ named′ : List ℕ) → ((n : ℕ) → n ∈ ns ↔ n ∈ ns′)
+    → ((n : ℕ) → n < length es → n ∈ named ↔ n ∈ named′)
+    → signers es ns named ≡ signers es ns′ named′
+alike-signers es ns named ns′ named′ same same-named =
+    let found = signers-are es ns named in
+    one-list es ns′ named′ (signers es ns named) (record {
       each = λ K. (
-        λ m. signs-more (λ n. same n .0) (found .each K .0 m),
-        λ s. found .each K .1 (signs-more (λ n. same n .1) s),
+        λ m.
+            let s = found .each K .0 m in
+            record {
+              statement = s .statement;
+              stands = same (s .statement) .0 (s .stands);
+              used = same-named (s .statement) (says-in-table es (s .statement) (s .is)) .0 (s .used);
+              said = s .said;
+              is = s .is;
+            },
+        λ s. found .each K .1 (record {
+          statement = s .statement;
+          stands = same (s .statement) .1 (s .stands);
+          used = same-named (s .statement) (says-in-table es (s .statement) (s .is)) .1 (s .used);
+          said = s .said;
+          is = s .is;
+        }),
       );
       rising = found .rising;
     })
 
--- With one statement more at the end its own principal is put in.
-pub signers-last : (es : List Entry) (ns : List ℕ) (n : ℕ)
-    → signers es (ns ++ (n ∷ [])) ≡ joined (signers es ns) (entryAt es n)
-signers-last es ns n =
-    let found = signers-are es ns in
-    sym (one-list es (ns ++ (n ∷ [])) (joined (signers es ns) (entryAt es n)) (record {
-      each = λ K. (
-        λ m. ⊎-elim
-            (λ (f, is). record { statement = n; stands = Memᴰ·append-right ns first; said = f; is = is })
-            (λ i. signs-more (⊆-left (n ∷ [])) (found .each K .0 i))
-            (joined-from (signers es ns) (entryAt es n) K m),
-        λ s. ⊎-elim
-            (λ i. stays (signers es ns) (entryAt es n)
-            (found .each K .1 (record { statement = s .statement; stands = i; said = s .said; is = s .is })))
-            (λ i. joins (signers es ns) (s .said, ap (entryAt es) (sym (List·Memᴰ·eq-of-singleton i)) ∙ s .is))
-            (List·Memᴰ·append-cases ns (s .stands)),
-      );
-      rising = joined-rises (signers es ns) (entryAt es n) (found .rising);
-    }))
+pub same-signers : SameSigners
+same-signers es first second named same = alike-signers es first named second named same (λ n l. (λ m. m, λ m. m))
+
+pub signers-have-papers : SignersHavePapers
+signers-have-papers es ns named =
+    let (each, rising) = principals-are es ns in
+    let found = signers-are es ns named in
+    let all : signers es ns named ⊆ principals es ns = λ K m.
+    let s = found .each K .0 m in
+    each K .1 (record { statement = s .statement; stands = s .stands; said = s .said; is = s .is }) in
+    (all, rising-length (signers es ns named) (principals es ns) (found .rising) rising all)
+
+-- With one statement more at the end its own principal is put in, where the statement is named.
+pub signers-last : (es : List Entry) (ns : List ℕ) (n : ℕ) (named : List ℕ)
+    → signers es (ns ++ (n ∷ [])) named
+    ≡ pick (holds named n) (joined (signers es ns named) (entryAt es n)) (signers es ns named)
+signers-last es ns n named =
+    ap (principals es) (used-last named ns n)
+    ∙ pick-cases
+    (λ (l : List ℕ).
+    principals es l ≡ pick (holds named n) (joined (signers es ns named) (entryAt es n)) (signers es ns named))
+    (holds named n)
+    (λ t. rw t (principals-last es (used named ns) n))
+    (λ t. rw t refl)
 
 -- ---- over propositions
 
@@ -101,6 +179,10 @@ of-form made (And f g) K A q = absurd (false≢true cc)
 of-form made (Or f g) K A q = absurd (false≢true cc)
 of-form made IllFormed K A q = absurd (false≢true cc)
 
+pub says-entry : (es : List Entry) → Ordered es → (n K : ℕ) (A : Proposition) → spell es n ≡ K says A
+    → OfForm (entryAt es n) K
+says-entry es ordered n K A q = of-form (spelled es) (entryAt es n) K A (sym (made-of-operands es ordered n) ∙ q)
+
 pub signs-spelled : SignsSpelled
 signs-spelled es ordered ns K = (
   λ s. record {
@@ -109,6 +191,6 @@ signs-spelled es ordered ns K = (
   },
   λ s.
       let (n, m, q) = Memᴰ·of-map (spell es) ns (s .stands) in
-      let (f, is) = of-form (spelled es) (entryAt es n) K (s .said) (sym (made-of-operands es ordered n) ∙ q) in
+      let (f, is) = says-entry es ordered n K (s .said) q in
       record { statement = n; stands = m; said = f; is = is },
 )

@@ -1,7 +1,5 @@
--- The theorems of specs/, and the laws behind the code.
+-- The theorems of specs/, and the lemmas behind them.
+pub mod Statements
 pub mod Joined
 pub mod Each
-pub mod Insert
-pub mod Flags
-pub mod Loops
 pub mod Samples

@@ -1,5 +1,4 @@
--- The signers of statements over a table, and samples. Flags is for a private function.
+-- The signers of statements over a table, what holds of them, and samples.
 pub mod Signers
 pub mod Each
-pub mod Flags
 pub mod Samples

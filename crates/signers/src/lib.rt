@@ -1,4 +1,1 @@
-// The signers of statements over a table.
-pub mod collect;
-mod few;
-mod many;
+// The signers of statements over a table: definitions and theorems, no code. `signers_write` has that.

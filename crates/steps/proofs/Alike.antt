@@ -3,8 +3,8 @@
 use Prim.Native.Nat.{ℕ, suc, _+_, _<_, _≤_}
 use native.Mathlib.Omega.{arith}
 use mathlib.Core.Bool.{Bool, true, false}
-use mathlib.Core.Path.{_≡_, refl, sym, ap, fun-ext}
-use mathlib.Core.Logic.{_↔_, Iff·trans, Iff·symm}
+use mathlib.Core.Path.{_≡_, refl, ap, fun-ext}
+use mathlib.Core.Logic.{Iff·trans, Iff·symm}
 use mathlib.Core.List.{List, [], _∷_, _++_, map, Forall₂, Forall₂·nil, Forall₂·cons}
 use lib.ListN.{length, getD}
 use lib.Dec.{eqb, ltb, leb}
@@ -13,7 +13,7 @@ use Rattle.basics.specs.Choice.{pick, both}
 use Rattle.basics.specs.Membership.{holds}
 use Rattle.basics.specs.Word.{radix, upper, lower}
 use Rattle.basics.proofs.Membership.{holds-member, holds-append}
-use Rattle.basics.proofs.Choice.{pick-cases}
+use Rattle.basics.proofs.Choice.{pick-cases, same-test}
 use Rattle.table.specs.declared.entry.Formula.{Formula}
 use Rattle.table.specs.declared.entry.Principal.{Principal}
 use Rattle.table.specs.declared.entry.Entry.{Entry}
@@ -41,12 +41,6 @@ pub record AsNamed (es : List Entry) (o o′ : Obligation) : Type 0 where
   pub same-goal : o .goal ≡ o′ .goal
   pub same-depth : o .depth ≡ o′ .depth
   pub same-named : (n : ℕ) → n < length es → n < radix → holds (o .hypotheses) n ≡ holds (o′ .hypotheses) n
-
--- Two tests that are true together are one.
-same-test : (a b : Bool) → a ≡ true ↔ b ≡ true → a ≡ b
-same-test true b e = sym (e .0 refl)
-same-test false true e = e .1 refl
-same-test false false e = refl
 
 -- A second test counts only where the first is passed.
 both-same : (t : Bool) {a b : Bool} → (t ≡ true → a ≡ b) → both t a ≡ both t b

@@ -22,6 +22,7 @@ pub mod Complete
 pub mod Runs
 pub mod Trace
 pub mod ByWord
+pub mod Naming
 pub mod Figure1
 pub mod Answer
 pub mod Samples

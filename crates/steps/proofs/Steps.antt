@@ -125,8 +125,8 @@ module _ (speaks : ℕ → ℕ → Bool) (limit : ℕ) (es : List Entry) where
 
   first-least : (w : ℕ) (o : Obligation) (m : ℕ) → FirstAt speaks limit es w o m ↔ LeastAt w o m
   first-least w o m =
-      let range : (n p : ℕ) → ReasonAt speaks limit es w o n → (1 ≤ n) × (n ≤ 15) = λ n p why.
-      let (lo, hi) = in-range n why in (omega arith, omega arith) in
+      let range : (n p : ℕ) → ReasonAt speaks limit es w o n → (1 ≤ n) × (n ≤ 15) × (¬ (n ≡ 8)) = λ n p why.
+      let (lo, hi) = in-range n why in (omega arith, omega arith, λ e. omega arith) in
       let (to, from) = first-is-lowest (λ n p. ReasonAt speaks limit es w o n) range m 0 in (
         λ first. let (why, none-lower) = to first in record { applies = why; lowest = λ j other. not-lower m j (λ l. none-lower j 0 l other) },
         λ least. from (least .applies, λ n q l why. let k = least .lowest n why in omega arith),

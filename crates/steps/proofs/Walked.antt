@@ -3,13 +3,13 @@ use Prim.Native.Nat.{ℕ, _≤_, _<_}
 use native.Mathlib.Omega.{arith}
 use mathlib.Core.Path.{_≡_, refl, sym, ap, _∙_}
 use mathlib.Core.Logic.{_↔_, _⊎_, inl, ⊎-elim}
-use mathlib.Core.List.{[], _∷_}
+use mathlib.Core.List.{List, [], _∷_}
 use borrow.Author.Tests.{eq-eqb, ne-eqb}
 use Rattle.basics.specs.declared.place.Place.the-variants.{Nowhere}
 use Rattle.basics.specs.declared.tested.Tested.the-variants as Outcome
 use Rattle.basics.specs.Choice.{pick}
 use Rattle.basics.specs.Membership.{_∈_}
-use Rattle.basics.specs.Refusals.{firstRefusal}
+use Rattle.basics.specs.Refusals.{Test, firstRefusal}
 use Rattle.basics.proofs.Asked.{somewhere}
 use Rattle.basics.proofs.Refusals.{applies, goes-on, none-left}
 use Rattle.basics.proofs.Order.{OneApplies, Follows, row, in-row, one-of}
@@ -28,15 +28,17 @@ pub walked-nowhere : (v : WalkVerdict) → (walked v .place ≡ Nowhere) ↔ ((q
 walked-nowhere (Closed q) = (λ e. (q, refl), λ h. refl)
 walked-nowhere (Refused m p) = (λ e. absurd (somewhere e), λ (q, e). absurd (refused-not-closed e))
 
--- A walk that refuses by 9 to 15 follows an order in which these stand one after the other, at its end.
+-- A walk that refuses by 9 to 15 follows an order in which these stand one after the other, before tests that follow
+-- the rest of it.
 walked-number : (v : WalkVerdict) → ((n p : ℕ) → v ≡ Refused n p → (9 ≤ n) × (n ≤ 15)) → walked v .number ∈ row 9 7
 walked-number (Closed q) range = in-row 9 7 15 (omega arith) (omega arith)
 walked-number (Refused n p) range = let (l, m) = range n p refl in in-row 9 7 n l (omega arith)
 
 pub walked-follows : (v : WalkVerdict) → ((n p : ℕ) → v ≡ Refused n p → (9 ≤ n) × (n ≤ 15))
-    → Follows (9 ∷ 10 ∷ 11 ∷ 12 ∷ 13 ∷ 14 ∷ 15 ∷ []) (walked v ∷ [])
+    → (order : List ℕ) (ts : List Test) → Follows order ts
+    → Follows (9 ∷ 10 ∷ 11 ∷ 12 ∷ 13 ∷ 14 ∷ 15 ∷ order) (walked v ∷ ts)
 unfolding row
-walked-follows v range = one-of (row 9 7) [] (walked v) [] (walked-number v range) tt
+walked-follows v range order ts f = one-of (row 9 7) order (walked v) ts (walked-number v range) f
 
 -- ---- as code makes it: the first refusal of a list with nothing else
 

@@ -11,8 +11,10 @@ use lib.Dec.{eqb}
 use Rattle.basics.specs.Membership.{_∈_}
 use Rattle.basics.specs.declared.tested.Tested.the-variants.{Passed}
 use Rattle.basics.specs.Limits.{mostDepth}
+use Rattle.logic.specs.Proposition.{Proposition}
 use Rattle.logic.specs.Figure1.{Same}
 use Rattle.table.specs.declared.entry.Entry.{Entry}
+use Rattle.table.specs.Spelled.{spellAll}
 use Rattle.table.specs.Tests.{entries, tableTests}
 use Rattle.steps.specs.declared.opened.Opened.{Opened}
 use Rattle.steps.specs.declared.verdict.WalkVerdict.{WalkVerdict}
@@ -26,6 +28,7 @@ use Rattle.steps.specs.Carried as AnyCarried
 use Rattle.steps.specs.Carried.{InTable}
 use Rattle.steps.specs.Trace as AnyTrace
 use Rattle.steps.specs.Trace.{Line, lineOf}
+use Rattle.steps.specs.Naming.{namedNumbers, Names}
 
 -- "the same K"
 abbrev pub same : ℕ → ℕ → Bool
@@ -103,3 +106,9 @@ LinesByWord =
     → (i : ℕ) → i < length ws
     → (o : Obligation) × (rest : List Obligation) × LeftToProve es (take i ws) os (o ∷ rest)
     × (getElem? (trace es ws os) i ≡ some (lineOf same es (getD ws i 0) o))
+
+-- The lines name what the words' numbers spell.
+abbrev pub NamedOnTrace : Type 0
+NamedOnTrace =
+    (picks : ℕ → Bool) (es : List Entry) (os : List Obligation) (ws : List ℕ) → run es ws os ≡ Closed (length ws)
+    → (A : Proposition) → Names picks (trace es ws os) A ↔ A ∈ spellAll es (namedNumbers picks ws)

@@ -17,6 +17,7 @@ pub mod Carried
 pub mod Runs
 pub mod Trace
 pub mod ByWord
+pub mod Naming
 pub mod Figure1
 pub mod Answer
 pub mod Samples

@@ -1,17 +1,21 @@
 //! The fixed set of the tests: small exhaustive pieces, files with doubled formulas, a run of
-//! seeded files, larger exhaustive pieces, files with crowded tables, and the largest files.
+//! seeded files, lists of papers, larger exhaustive pieces, files with crowded tables, and the
+//! largest files.
 use crate::crowded::{crowded, REPEATS, SIZES};
 use crate::given::{given, Given};
 use crate::largest::largest;
 use crate::parts::{Kind, Parts};
 use crate::raw::LIMITS;
 use crate::{exchanges, records};
-use builder::layout::bytes;
+use builder::layout::{bytes, record};
+use builder::papers::{all_of, opened, signed};
 use builder::random::Random;
 use builder::samples::{A, K, T};
-use builder::steps::{part, AND_LEFT, IMPLIES_RIGHT, INIT, OR_LEFT};
+use builder::steps::*;
 use builder::table::Entry::{self, And, Atom, False, Implies, Or, Says};
+use builder::table::Table;
 use builder::texts::doubled;
+use std::iter::successors;
 
 /// How many seeded files the set has.
 pub const SEEDED: u64 = 300_000;
@@ -46,10 +50,11 @@ impl Fixed {
         for (words, kind) in small_files() {
             pieces.extend(near(&words, kind));
         }
-        pieces.extend(all_short_lists());
-        pieces.push(all_signed());
         pieces.push(Piece { count: 6 * DOUBLED.len() as u64, make: Box::new(doubled_files) });
         pieces.push(Piece { count: SEEDED, make: Box::new(|number| given(SEED, number)) });
+        pieces.extend(all_short_lists());
+        pieces.extend(all_short_lists_in_part());
+        pieces.push(all_signed());
         for (words, kind) in [(&A[..], Kind::Record), (&K, Kind::Exchange)] {
             pieces.extend((0..words.len()).map(|at| any_word(words, kind, at)));
         }
@@ -84,9 +89,17 @@ fn fixed(kind: Kind, file: Vec<u8>) -> Given {
     Given { family: "fixed", kind, file, room: 256, to_both: true }
 }
 
-/// Right files from which the near misses are made: 01's, and some grown ones.
+/// Right files from which the near misses are made: 01's, one with an unused paper between two that
+/// are opened, one that opens what an order gives and what is no statement, and some grown ones.
 fn small_files() -> Vec<(Vec<u16>, Kind)> {
-    let mut files = vec![(A.to_vec(), Kind::Record), (K.to_vec(), Kind::Exchange)];
+    let given = [Atom(0), Says(7, 0), Implies(0, 1)].map(Entry::words);
+    let by_order = [&[IMPLIES_LEFT + 2, INIT], &opened(1, 0)[..]].concat();
+    let mut files = vec![
+        (A.to_vec(), Kind::Record),
+        (K.to_vec(), Kind::Exchange),
+        (signed(1, &[7, 8, 9], &[9, 7]), Kind::Record),
+        (record(&given, &[0, 2], 1, &by_order), Kind::Record),
+    ];
     for number in 0..12 {
         let random = &mut Random::of(3, number);
         let parts = match number % 3 {
@@ -165,24 +178,27 @@ fn any_word(words: &[u16], kind: Kind, at: usize) -> Piece {
 }
 
 /// All step words of length 1 to 3 with codes up to 12 and parts up to 2, over 01's table T and
-/// over one with implies, and, or and false, for a few statements and goals.
+/// over ones with implies, and, or and false, for a few statements and goals; and over what 7 and 8
+/// say of false, with no room, room for one signer, and for two.
 fn all_short_proofs() -> Vec<Piece> {
     let over_both = |entry: Entry| [Atom(0), False, entry].map(Entry::words);
     let [implies, and, or] = [Implies(0, 1), And(0, 1), Or(0, 1)].map(over_both);
+    let said = [False, Says(7, 0), Says(8, 0)].map(Entry::words);
+    let one_room = [(T, 0), (T, 1), (implies, 2), (and, 2), (or, 2), (implies, 0)];
+    let rooms = [0, 1, 2].map(|room| (said, 1, room));
     let mut pieces = vec![];
-    for (table, goal) in [(T, 0), (T, 1), (implies, 2), (and, 2), (or, 2), (implies, 0)] {
+    for (table, goal, room) in
+        one_room.map(|(table, goal)| (table, goal, 256)).into_iter().chain(rooms)
+    {
         for statements in [vec![0], vec![2, 1]] {
             let parts = Parts::record(&table, statements, goal, vec![]);
             let make = move |number: u64| {
                 let mut parts = parts.clone();
-                let mut rest = number;
                 // 0 stands for no word, 1 to 39 for a code and a part
-                while rest > 0 {
-                    let word = (rest % 40) as u16;
-                    rest /= 40;
-                    parts.steps.extend((word > 0).then(|| (word - 1) / 3 * 4096 + (word - 1) % 3));
-                }
-                Given { to_both: false, ..fixed(Kind::Record, parts.bytes()) }
+                parts
+                    .steps
+                    .extend(digits(number, 40).map(|word| (word - 1) / 3 * 4096 + (word - 1) % 3));
+                Given { room, to_both: false, ..fixed(Kind::Record, parts.bytes()) }
             };
             pieces.push(Piece { count: 40 * 40 * 40, make: Box::new(make) });
         }
@@ -190,43 +206,84 @@ fn all_short_proofs() -> Vec<Piece> {
     pieces
 }
 
-/// All lists of up to five statements out of six, with a goal that needs none of them: an order,
-/// and papers of the principals 4,095, 9 (two), 0 and 10. They stand alone, and after as many
-/// orders as are few.
+/// The digits of a number, the last first, without zeros.
+fn digits(number: u64, base: u64) -> impl Iterator<Item = u16> {
+    let rests = successors(Some(number), move |rest| Some(rest / base));
+    let digits = rests.take_while(|rest| *rest > 0).map(move |rest| (rest % base) as u16);
+    digits.filter(|digit| *digit > 0)
+}
+
+/// The papers of short lists, entries 1 to 5 of the table; entry 0 is an order.
+const PAPERS: [Entry; 5] = [Says(4095, 0), Says(9, 0), Says(0, 0), Says(10, 0), Says(9, 1)];
+
+/// A list of statements out of six, an order and the papers, after so many orders. The goal needs
+/// none of them, each of the four affirms on the way to it, and says left opens those papers of the
+/// list that are asked for: 1, 2, 4, 8 and 16 stand for them.
+fn short_list(orders: usize, list: u64, asked: u64) -> Parts {
+    let mut table = Table::default();
+    table.number(Atom(0));
+    PAPERS.into_iter().for_each(|paper| _ = table.number(paper));
+    let anyway = table.number(Implies(0, 0));
+    // 0 stands for no statement, 1 to 6 for the first six entries
+    let listed: Vec<u16> = digits(list, 7).map(|statement| statement - 1).collect();
+    let is_opened = |paper: &u16| listed.contains(paper) && asked >> (paper - 1) & 1 == 1;
+    let affirmed = |principal: u16| {
+        let is_own = |paper: &u16| matches!(table.entry(*paper), Says(own, _) if own == principal);
+        let opened = (1..=5).filter(is_own).filter(is_opened).map(|paper| SAYS_LEFT + paper);
+        let end = [AFFIRM, IMPLIES_RIGHT, INIT];
+        [SAYS_RIGHT].into_iter().chain(opened).chain(end).collect::<Vec<u16>>()
+    };
+    let proofs = [10, 4095, 0, 9].map(|principal| (principal, affirmed(principal)));
+    let proofs = proofs.map(|(principal, proof)| (table.number(Says(principal, anyway)), proof));
+    let (goal, steps) = all_of(&proofs, &mut |entry| table.number(entry));
+    Parts::record(&table, [vec![0; orders], listed].concat(), goal, steps)
+}
+
+/// All lists of up to five statements, alone and after as many orders as are few, with all their
+/// papers opened.
 fn all_short_lists() -> [Piece; 2] {
-    let papers = [Says(4095, 0), Says(9, 0), Says(0, 0), Says(10, 0), Says(9, 1)];
-    let entries = [&[Atom(0)], &papers[..], &[Implies(0, 0)]].concat();
-    let table: Vec<(u16, u16)> = entries.into_iter().map(Entry::words).collect();
     [0, FEW].map(|orders| {
-        let parts = Parts::record(&table, vec![0; orders], 6, vec![IMPLIES_RIGHT, INIT]);
-        let make = move |number: u64| {
-            let mut parts = parts.clone();
-            let mut rest = number;
-            // 0 stands for no statement, 1 to 6 for the first six entries
-            while rest > 0 {
-                let statement = (rest % 7) as u16;
-                rest /= 7;
-                parts.first.extend((statement > 0).then(|| statement - 1));
-            }
+        let make = move |list: u64| {
+            let parts = short_list(orders, list, 31);
             Given { to_both: false, ..fixed(Kind::Record, parts.bytes()) }
         };
         Piece { count: 7 * 7 * 7 * 7 * 7, make: Box::new(make) }
     })
 }
 
-/// Lists of 1 to 256 papers, each of another principal, the highest first: for a lent list with room
-/// for all of them, and with a word less.
+/// All lists of up to three statements with any papers opened, for a lent list with just room for
+/// the signers, with a word less, and with room for all who have papers.
+fn all_short_lists_in_part() -> [Piece; 2] {
+    [0, FEW].map(|orders| {
+        let make = move |number: u64| {
+            let parts = short_list(orders, number / 96, number / 3 % 32);
+            let room = short_room(number % 3, parts.signers().len(), parts.with_papers().len());
+            Given { room, to_both: false, ..fixed(Kind::Record, parts.bytes()) }
+        };
+        Piece { count: 7 * 7 * 7 * 96, make: Box::new(make) }
+    })
+}
+
+fn short_room(which: u64, signers: usize, papers: usize) -> usize {
+    [signers, signers.saturating_sub(1), papers][which as usize]
+}
+
+/// Lists of 1 to 256 papers, each of another principal, the highest first. All of them are opened,
+/// or every other one, or one; and the rooms are those of the short lists.
 fn all_signed() -> Piece {
     let make = |number: u64| {
-        let papers = number / 2 + 1;
-        let mut table = vec![Atom(0).words(), Implies(0, 0).words()];
-        table.extend((1..=papers).rev().map(|k| Says((k * 4095 / papers) as u16, 0).words()));
-        let statements = (2..papers as u16 + 2).collect();
-        let parts = Parts::record(&table, statements, 1, vec![IMPLIES_RIGHT, INIT]);
-        let room = (papers - number % 2) as usize;
-        Given { room, to_both: false, ..fixed(Kind::Record, parts.bytes()) }
+        let count = number / 9 + 1;
+        let papers: Vec<u16> = (1..=count).rev().map(|k| (k * 4095 / count) as u16).collect();
+        let signers = match number / 3 % 3 {
+            0 => papers.clone(),
+            1 => papers.iter().copied().step_by(2).collect(),
+            _ => vec![papers[papers.len() / 2]],
+        };
+        let room = short_room(number % 3, signers.len(), papers.len());
+        let file = bytes(&signed(0, &papers, &signers));
+        Given { room, to_both: false, ..fixed(Kind::Record, file) }
     };
-    Piece { count: 2 * 256, make: Box::new(make) }
+    Piece { count: 9 * 256, make: Box::new(make) }
 }
 
 /// Records with formulas over themselves, (A and A) and so on, so that a text soon is longer than

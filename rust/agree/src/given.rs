@@ -61,6 +61,7 @@ fn right(random: &mut Random, kind: Kind) -> Parts {
     match kind {
         Kind::Record if random.one_in(40) => records::needs_twice(random),
         Kind::Record if random.one_in(4) => records::signed(random),
+        Kind::Record if random.one_in(4) => records::carried(random),
         Kind::Record => records::small(random, None),
         Kind::Exchange => exchanges::small(random, None),
     }
@@ -80,13 +81,15 @@ fn near_miss(random: &mut Random, family: &'static str, mut parts: Parts) -> Giv
 }
 
 fn of_parts(random: &mut Random, family: &'static str, parts: &Parts) -> Given {
-    let signers = parts.signers().len();
+    let [signers, papers] = [parts.signers(), parts.with_papers()].map(|list| list.len());
     let room = match random.below(12) {
         0 => 0,
         1 => signers.saturating_sub(1),
         2 | 3 => signers,
-        4 => signers + 1,
-        5 => random.below(300),
+        // enough for the signers, and too short for all papers, if some lie unused
+        4 => random.between(signers, papers),
+        5 => papers,
+        6 => random.below(300),
         _ => 256,
     };
     Given { family, kind: parts.kind, file: parts.bytes(), room, to_both: random.one_in(16) }

@@ -2,7 +2,7 @@
 use crate::random_table::RandomTable;
 use builder::layout;
 use builder::random::Random;
-use builder::steps::{names, part, rule};
+use builder::steps::{names, part, rule, SAYS_LEFT};
 use builder::table::Entry::{self, Says};
 use std::collections::BTreeSet;
 
@@ -61,14 +61,42 @@ impl Parts {
         layout::bytes(&self.words())
     }
 
-    /// The principals of the statements, by the table as it stands.
+    /// The parts of a record that has the layout.
+    pub fn of_record(file: &[u8]) -> Parts {
+        let mut words = file.chunks_exact(2).map(|pair| u16::from_le_bytes([pair[0], pair[1]]));
+        let mut take = |count: u16| words.by_ref().take(count.into()).collect::<Vec<u16>>();
+        let sizes = take(4);
+        let (heads, seconds) = (take(sizes[0]), take(sizes[0]));
+        let table: Vec<(u16, u16)> = heads.into_iter().zip(seconds).collect();
+        let (statements, steps) = (take(sizes[1]), take(sizes[2]));
+        Parts::record(&table, statements, sizes[3], steps)
+    }
+
+    /// The formulas that some says left names.
+    pub fn opened(&self) -> BTreeSet<u16> {
+        let says_lefts = self.steps.iter().filter(|step| rule(**step) == SAYS_LEFT);
+        says_lefts.map(|step| part(*step)).collect()
+    }
+
+    /// The principals of the papers, the statements of the form K says A, by the table as it stands.
+    pub fn with_papers(&self) -> BTreeSet<u16> {
+        self.principals_of(|_| true)
+    }
+
+    /// Those of them of whose papers some says left names one.
     pub fn signers(&self) -> BTreeSet<u16> {
-        let stated = self.first.iter().filter_map(|&statement| self.table.get(statement as usize));
-        let signer = |&entry: &(u16, u16)| match Entry::of(entry) {
+        let opened = self.opened();
+        self.principals_of(|statement| opened.contains(&statement))
+    }
+
+    fn principals_of(&self, counts: impl Fn(u16) -> bool) -> BTreeSet<u16> {
+        let stated = self.first.iter().filter(|statement| counts(**statement));
+        let entries = stated.filter_map(|&statement| self.table.get(statement as usize));
+        let principal = |&entry: &(u16, u16)| match Entry::of(entry) {
             Some(Says(principal, _)) => Some(principal),
             _ => None,
         };
-        stated.filter_map(signer).collect()
+        entries.filter_map(principal).collect()
     }
 
     /// The same file over a table in another order.

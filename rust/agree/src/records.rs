@@ -4,9 +4,10 @@ use crate::identity::identity;
 use crate::parts::Parts;
 use crate::random_table::RandomTable;
 use crate::slips;
+use builder::papers::all_of;
 use builder::random::Random;
 use builder::steps::*;
-use builder::table::Entry::{False, Implies, Or, Says};
+use builder::table::Entry::{And, False, Implies, Or, Says};
 
 /// A small record: a random goal, a grown proof, what it needs as statements, and what nobody
 /// needs.
@@ -36,8 +37,8 @@ pub fn small(random: &mut Random, slip: Option<Slip>) -> Parts {
 /// keep them.
 const EDGES: [u16; 14] = [0, 1, 9, 10, 15, 16, 63, 64, 99, 100, 999, 1000, 4032, 4095];
 
-/// A small record with papers that nobody needs, by several principals in any order: mostly a few,
-/// now and then as many as there may be statements.
+/// A small record with papers that lie unused, by several principals in any order: mostly a few, now
+/// and then as many as there may be statements.
 pub fn signed(random: &mut Random) -> Parts {
     let mut parts = small(random, None);
     let room = 256 - parts.first.len();
@@ -60,6 +61,50 @@ pub fn signed(random: &mut Random) -> Parts {
         random.shuffle(&mut parts.first);
     }
     parts
+}
+
+/// A record whose goal takes some of its statements, each proved from itself. So opened papers stand
+/// beside unused ones, often of the same principals; and what is opened may be a paper, or a part of
+/// a statement that a rule has added, or both.
+pub fn carried(random: &mut Random) -> Parts {
+    let mut table = RandomTable::default();
+    let count = if random.one_in(16) { random.between(30, 120) } else { random.between(2, 8) };
+    let mut statements = vec![];
+    for _ in 0..count {
+        let statement = paper_or_around(&mut table, random, &statements);
+        statements.push(statement);
+    }
+    let mut used: Vec<u16> = statements.iter().copied().filter(|_| random.one_in(2)).collect();
+    if used.is_empty() {
+        used.push(statements[0]);
+    }
+    random.shuffle(&mut used);
+    let proofs: Vec<_> = used.iter().map(|&formula| (formula, identity(&table, formula))).collect();
+    let (goal, steps) = all_of(&proofs, &mut |entry| table.number(entry));
+    dressed(random, table, statements, goal, steps)
+}
+
+/// A paper, or a formula around one, which is new or stands among the statements.
+fn paper_or_around(table: &mut RandomTable, random: &mut Random, statements: &[u16]) -> u16 {
+    let is_paper = |number: &u16| matches!(table.entry(*number), Says(..));
+    let stated: Vec<u16> = statements.iter().copied().filter(is_paper).collect();
+    let paper = if stated.is_empty() || random.one_in(2) {
+        let principal = if random.one_in(4) { random.pick(&EDGES) } else { random.name() };
+        let said = table.formula(random, 1);
+        table.number(Says(principal, said))
+    } else {
+        random.pick(&stated)
+    };
+    let other = table.formula(random, 1);
+    let around = match random.below(8) {
+        0 => And(paper, other),
+        1 => And(other, paper),
+        2 => Implies(other, paper),
+        3 => Or(paper, other),
+        4 => Says(random.name(), paper),
+        _ => return paper,
+    };
+    table.number(around)
 }
 
 /// "not not (A or not A)" has no proof without its hypothesis twice.

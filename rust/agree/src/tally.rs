@@ -1,7 +1,7 @@
 //! How often each refusal, each rule and each grant occurred.
 use crate::compare::Answer;
 use crate::given::{Given, FAMILIES};
-use crate::parts::Kind;
+use crate::parts::{Kind, Parts};
 use crate::texts::{Counts, TOO_LONG};
 use builder::steps::{code, RULES};
 use std::fmt;
@@ -13,6 +13,12 @@ pub struct Tally {
     pub granted: u64,
     /// Granted with two signers or more, which have an order.
     pub several: u64,
+    /// Granted where someone has papers and they all lie unused.
+    pub unused: u64,
+    /// Granted where the lent list is too short for all who have papers.
+    pub short: u64,
+    /// Granted where a says left names a formula that is no statement.
+    pub added: u64,
     pub equal: u64,
     /// Refusals of records by number, from 1 to 15.
     pub records: [u64; 16],
@@ -32,8 +38,14 @@ impl Tally {
         for (kind, answer) in answers {
             match answer {
                 Answer::Granted(signers) => {
+                    let parts = Parts::of_record(&given.file);
+                    let papers = parts.with_papers().len();
                     self.granted += 1;
                     self.several += u64::from(signers.len() > 1);
+                    self.unused += u64::from(signers.len() < papers);
+                    self.short += u64::from(given.room < papers);
+                    self.added +=
+                        u64::from(parts.opened().iter().any(|n| !parts.first.contains(n)));
                 }
                 Answer::Equal => self.equal += 1,
                 Answer::Refused { number, .. } => match kind {
@@ -53,6 +65,9 @@ impl Tally {
         self.files += other.files;
         self.granted += other.granted;
         self.several += other.several;
+        self.unused += other.unused;
+        self.short += other.short;
+        self.added += other.added;
         self.equal += other.equal;
         let pairs = |mine: &mut [u64], theirs: &[u64]| {
             mine.iter_mut().zip(theirs).for_each(|(a, b)| *a += b);
@@ -64,6 +79,16 @@ impl Tally {
         self.texts.add(&other.texts);
     }
 
+    /// The grants that have to do with who signs.
+    fn of_signers(&self) -> [(&'static str, u64); 4] {
+        [
+            ("with several signers", self.several),
+            ("with an unused paper", self.unused),
+            ("in a list short of papers", self.short),
+            ("opening what is no statement", self.added),
+        ]
+    }
+
     /// What should have occurred and never did.
     pub fn missing(&self) -> Vec<String> {
         let mut missing = vec![];
@@ -73,7 +98,9 @@ impl Tally {
             }
         };
         expect(self.granted, "granted".to_string());
-        expect(self.several, "granted with several signers".to_string());
+        for (what, count) in self.of_signers() {
+            expect(count, format!("granted {what}"));
+        }
         expect(self.equal, "equal".to_string());
         for number in 1..=15 {
             expect(self.records[number], format!("refusal {number} of a record"));
@@ -111,7 +138,9 @@ impl fmt::Display for Tally {
         }
         writeln!(f, "\n{:<28} {:>12} {:>14}", "answer", "record", "exchange")?;
         writeln!(f, "{:<28} {:>12} {:>14}", "granted, equal", self.granted, self.equal)?;
-        writeln!(f, "{:<28} {:>12} {:>14}", "with several signers", self.several, "-")?;
+        for (what, count) in self.of_signers() {
+            writeln!(f, "{what:<28} {count:>12} {:>14}", "-")?;
+        }
         for number in 1..=15 {
             let exchange = match number {
                 6 | 8 => "-".to_string(),

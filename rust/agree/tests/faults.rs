@@ -158,7 +158,7 @@ fn find_all(
 /// but for one fault.
 #[test]
 fn the_fixed_set_finds_each_fault() {
-    assert_eq!(FAULTS.len(), 107);
+    assert_eq!(FAULTS.len(), 124);
     let fixed = Fixed::new();
     // a fault that is found by a panic is an error below; the message would only be in the way
     let hook = take_hook();

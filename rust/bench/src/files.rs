@@ -9,7 +9,9 @@ mod texts;
 use builder::layout::bytes;
 use builder::samples::{A, K};
 
-pub use build::{crowded_exchange, crowded_record, deep_exchange, deep_record, exchange, record};
+pub use build::{
+    crowded_exchange, crowded_record, deep_exchange, deep_record, exchange, record, signed_record,
+};
 pub use refused::{with_wrong_entry, with_wrong_step};
 pub use texts::{doubled_record, doubled_tree, many_lines, typical_record};
 

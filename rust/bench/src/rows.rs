@@ -55,6 +55,7 @@ fn large() -> Vec<Row> {
             [1024, 256, 6144],
             [512, 128, 3072],
         ),
+        row("many signers: record, S 256", files::signed_record(256), files::signed_record(128)),
         record("all together: record, 49,672 bytes", all, half_all),
         exchange("all together: exchange, 50,184 bytes", all, half_all),
         of("crowded roots: record, F 4,096", files::crowded_record, WIDE, half_wide),

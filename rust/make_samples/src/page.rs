@@ -8,7 +8,8 @@ const RECORDS: &str = include_str!("../pages/records.md");
 
 const EXCHANGES: &str = include_str!("../pages/exchanges.md");
 
-/// "Refused, in checking order" (01), and what 02 adds: the numbers from 1, and the places.
+/// The reasons and the places of "Refused, in checking order" (01), and what 02 adds, by number from
+/// 1.
 const REFUSALS: [(&str, &str); 16] = [
     ("The file has fewer than 8 bytes.", "0"),
     ("F, S or N is outside its range.", "0"),
@@ -38,6 +39,9 @@ const REFUSALS: [(&str, &str); 16] = [
         "0",
     ),
 ];
+
+/// The checking order: 8 "is tested after 15 and before 16" (02).
+const ORDER: [usize; 16] = [1, 2, 3, 4, 5, 6, 7, 9, 10, 11, 12, 13, 14, 15, 8, 16];
 
 /// What reads otherwise for an exchange file: "the list above without 6 and 8. Places for 7 run
 /// through both lists, for 9 to 15 through all step words; depth starts at 1 in each proof". It has
@@ -70,7 +74,7 @@ fn page<T: Kind>(
     sections: &[Section<T>],
 ) -> String {
     let mut text = format!("{head}\n");
-    for number in 1..=REFUSALS.len() {
+    for number in ORDER {
         if let Some((reason, place)) = refusal(number) {
             let item = format!("- {number}: {reason} Place: {place}.");
             writeln!(text, "{}", filled(&item, "\n  ")).unwrap();

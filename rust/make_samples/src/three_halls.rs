@@ -3,6 +3,7 @@
 use crate::exchange::Exchange;
 use crate::record::Record;
 use crate::sample::{bare, sample, Kind, Section};
+use builder::papers::opened;
 use builder::steps::*;
 use builder::table::Entry::{And, Atom, Implies, Says};
 use builder::table::Table;
@@ -68,14 +69,9 @@ fn orders() -> Orders {
     }
 }
 
-/// "K says A", A an atom, from itself.
-fn by_paper(paper: u16, says: u16) -> Vec<u16> {
-    vec![SAYS_RIGHT, SAYS_LEFT + paper, AFFIRM, INIT + says]
-}
-
 /// An order of the form "(K says A) implies B", A and B atoms, from itself.
 fn on_word(order: u16, paper: u16, says: u16, then: u16) -> Vec<u16> {
-    [&[IMPLIES_RIGHT, IMPLIES_LEFT + order], &by_paper(paper, says)[..], &[INIT + then]].concat()
+    [&[IMPLIES_RIGHT, IMPLIES_LEFT + order], &opened(paper, says)[..], &[INIT + then]].concat()
 }
 
 impl Orders {
@@ -127,9 +123,9 @@ impl Orders {
     fn release_on_word(&self) -> Vec<u16> {
         [
             &[IMPLIES_RIGHT, AND_LEFT + self.both_say, IMPLIES_LEFT + self.lab_counts],
-            &by_paper(self.lab_says, self.sound)[..],
+            &opened(self.lab_says, self.sound)[..],
             &[IMPLIES_LEFT + self.weigher_counts],
-            &by_paper(self.weigher_says, self.weighed),
+            &opened(self.weigher_says, self.weighed),
             &self.by_release(),
         ]
         .concat()
@@ -174,7 +170,7 @@ fn wrong_fold() -> Exchange {
     let weigher_counts = [&[IMPLIES_RIGHT], &believed[..]].concat();
     let release_on_word = [
         &[IMPLIES_RIGHT, AND_LEFT + orders.both_say, IMPLIES_LEFT + orders.lab_counts],
-        &by_paper(orders.lab_says, orders.sound)[..],
+        &opened(orders.lab_says, orders.sound)[..],
         &[IMPLIES_LEFT + orders.release, AND_RIGHT, INIT + orders.sound],
         &believed,
         &[INIT + orders.leaves],
@@ -222,8 +218,8 @@ pub fn releases() -> Section<Record> {
     let orders = orders();
     let by_word = [
         &[IMPLIES_LEFT + orders.release_on_word, AND_RIGHT],
-        &by_paper(orders.lab_says, orders.sound)[..],
-        &by_paper(orders.weigher_says, orders.weighed),
+        &opened(orders.lab_says, orders.sound)[..],
+        &opened(orders.weigher_says, orders.weighed),
         &[INIT + orders.leaves],
     ]
     .concat();

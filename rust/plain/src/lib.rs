@@ -1,8 +1,8 @@
 //! A plain fast checker of release records and exchange files, as one writes it for speed in safe
 //! Rust: words are read where they stand, a hypothesis is a mark at its formula's number, and
 //! little more memory is cleared than the file's sizes ask for. It makes all of 01's tests in 01's
-//! order and 02's 16 after them, and keeps nothing between calls. The proved checker is measured
-//! against it.
+//! order, but for 8, which stands after 15, and then 16 (02), and keeps nothing between calls. The
+//! proved checker is measured against it.
 #![forbid(unsafe_code)]
 mod limits;
 mod sentences;
@@ -13,6 +13,7 @@ mod words;
 
 use limits::{MOST_FORMULAS, MOST_STATEMENTS, MOST_STEPS};
 use sentences::Sentences;
+use signers::Papers;
 use walk::{with_marks, Follow, Nothing, Walk};
 use words::Words;
 
@@ -79,17 +80,18 @@ fn check_followed(
     if goal >= formulas {
         return refuse(6, 0);
     }
-    with_marks(formulas, |held| {
+    with_marks(formulas, |[held, opened]| {
         hold_all(held, statements)?;
-        // a list as long as the statements has room for every signer
-        if signers.len() < count && signers.len() < signers::collect(heads, statements, &mut []) {
-            return refuse(8, 0);
-        }
-        let mut walk = Walk::new(heads, seconds, steps, held);
+        let mut walk = Walk::new(heads, seconds, steps, held, opened);
         walk.prove(goal as u16, follow)?;
         walk.end()?;
+        let papers = Papers { heads, statements, opened };
+        // a list as long as the statements has room for every signer
+        if signers.len() < count && signers.len() < papers.signers(&mut []) {
+            return refuse(8, 0);
+        }
         follow.end(heads, seconds)?;
-        Ok(signers::collect(heads, statements, signers))
+        Ok(papers.signers(signers))
     })
 }
 
@@ -112,12 +114,12 @@ pub fn check_exchange(file: &[u8]) -> Result<(), Refusal> {
     let (first, rest) = rest.split_at(count);
     let (second, steps) = rest.split_at(other);
     table::check(heads, seconds)?;
-    with_marks(formulas, |held| {
+    with_marks(formulas, |[held]| {
         hold_all(held, first)?;
         if let Some(position) = second.iter().position(|n| n as usize >= formulas) {
             return refuse(7, count + position);
         }
-        let mut walk = Walk::new(heads, seconds, steps, held);
+        let mut walk = Walk::new(heads, seconds, steps, held, &mut []);
         second.iter().try_for_each(|goal| walk.prove(goal, &mut Nothing))?;
         walk.hold_instead(first, second);
         first.iter().try_for_each(|goal| walk.prove(goal, &mut Nothing))?;

@@ -56,15 +56,20 @@ pub struct Walk<'a> {
     steps: Words<'a>,
     next: usize,
     held: &'a mut [bool],
+    /// Marks of what says lefts name; an exchange file lends none.
+    opened: &'a mut [bool],
     due: Vec<Due>,
 }
 
-/// Lends a mark for each formula, all of them off; a short table has few to clear.
-pub fn with_marks<T>(formulas: usize, run: impl FnOnce(&mut [bool]) -> T) -> T {
+/// Lends marks of each formula, so many times, all of them off; a short table has few to clear.
+pub fn with_marks<const TIMES: usize, T>(
+    formulas: usize,
+    run: impl FnOnce([&mut [bool]; TIMES]) -> T,
+) -> T {
     match formulas {
-        0..=64 => run(&mut [false; 64][..formulas]),
-        65..=512 => run(&mut [false; 512][..formulas]),
-        _ => run(&mut [false; MOST_FORMULAS][..formulas]),
+        0..=64 => run([[false; 64]; TIMES].each_mut().map(|marks| &mut marks[..formulas])),
+        65..=512 => run([[false; 512]; TIMES].each_mut().map(|marks| &mut marks[..formulas])),
+        _ => run([[false; MOST_FORMULAS]; TIMES].each_mut().map(|marks| &mut marks[..formulas])),
     }
 }
 
@@ -74,8 +79,9 @@ impl<'a> Walk<'a> {
         seconds: Words<'a>,
         steps: Words<'a>,
         held: &'a mut [bool],
+        opened: &'a mut [bool],
     ) -> Self {
-        Walk { heads, seconds, steps, next: 0, held, due: Vec::new() }
+        Walk { heads, seconds, steps, next: 0, held, opened, due: Vec::new() }
     }
 
     /// Holds one list's statements instead of another's.
@@ -173,6 +179,9 @@ impl<'a> Walk<'a> {
                 let (by, a) = self.left(n, SAYS)?;
                 if by != goal.by {
                     return Err(14);
+                }
+                if let Some(mark) = self.opened.get_mut(n as usize) {
+                    *mark = true;
                 }
                 self.hold(a);
                 goal

@@ -1,12 +1,13 @@
 //! The samples of document 01, every sample of the repository with the line that is stored for it,
 //! signers of few and many statements, and a table made for collisions.
 use builder::layout::{bytes, exchange, record};
+use builder::papers::signed;
 use builder::samples::T;
 use builder::texts::MOST_TEXT;
 use plain::{check_exchange, check_record, sentences, Refusal};
 use std::collections::BTreeSet;
+use std::fs;
 use std::path::{Path, PathBuf};
-use std::{fs, iter};
 
 /// The line that the record program would print, with a list of so many words; the words after the
 /// signers are as they were.
@@ -53,9 +54,37 @@ fn records_of_document_01() {
     for (name, words, line) in rows {
         assert_eq!(record_line(&bytes(&words), 256), line, "{name}");
     }
-    let signed = bytes(&record(&T, &[1, 2], 0, &[49152]));
-    assert_eq!(record_line(&signed, 1), "refused 8 place 0");
-    assert_eq!(record_line(&signed, 2), "refused 11 place 0");
+}
+
+/// A used paper of principal 7 and an unused one of 8; 8 stands after 15 (02).
+#[test]
+fn the_list_is_tested_after_the_proof() {
+    let signed = |steps: &[u16]| bytes(&record(&T, &[2, 1], 1, steps));
+    let rows = [
+        (&[40960, 45057, 4096, 0][..], 1, "granted 1 7"),
+        (&[40960, 45057, 4096, 0], 0, "refused 8 place 0"),
+        (&[40960, 45057, 4096, 0, 0], 0, "refused 15 place 4"),
+        (&[40960, 45057, 45058], 0, "refused 14 place 2"),
+        (&[40960, 45057, 0], 0, "refused 13 place 2"),
+        (&[40960, 45057, 4097], 0, "refused 11 place 2"),
+        (&[40960, 45057, 4096], 0, "refused 9 place 3"),
+    ];
+    for (steps, room, line) in rows {
+        assert_eq!(record_line(&signed(steps), room), line, "{steps:?}");
+    }
+}
+
+/// A says-formula that a rule adds and says left names, as no statement and as one: principal 7 says
+/// atom 0, implied by this atom.
+#[test]
+fn added_says_formulas() {
+    let table = [&T[..], &[(8192, 1), (20487, 1)]].concat();
+    let steps = [12288 + 3, 0, 40960, 45057, 4096, 0];
+    for (statements, line) in
+        [(&[0, 3][..], "granted 0"), (&[0, 3, 4, 2], "granted 0"), (&[0, 3, 1], "granted 1 7")]
+    {
+        assert_eq!(record_line(&bytes(&record(&table, statements, 1, &steps)), 1), line);
+    }
 }
 
 #[test]
@@ -119,7 +148,7 @@ fn written(file: &[u8], words: usize, bytes: usize) -> Result<(Vec<u16>, String)
 }
 
 /// The stored sentences, and the signers of the stored line, where there is just room for them; 16
-/// where a byte is missing, and before it 8 where a word is.
+/// where a byte is missing, and 8 before it where a word is.
 #[test]
 fn sentences_of_every_sample() {
     let records = samples().into_iter().filter(|sample| sample.name.ends_with(".record"));
@@ -151,16 +180,6 @@ fn sentences_of_every_sample() {
     }
 }
 
-/// A record in which these principals say atom 0, in this order, after so many standing orders.
-fn signed(principals: &[u16], orders: usize) -> Vec<u8> {
-    let heads: BTreeSet<u16> = principals.iter().map(|principal| 20480 + principal).collect();
-    let table: Vec<(u16, u16)> = iter::once(0).chain(heads).map(|head| (head, 0)).collect();
-    let paper = |principal: &u16| table.iter().position(|entry| entry.0 == 20480 + principal);
-    let papers = principals.iter().map(|principal| paper(principal).expect("an entry") as u16);
-    let statements: Vec<u16> = iter::repeat_n(0, orders).chain(papers).collect();
-    bytes(&record(&table, &statements, 0, &[0]))
-}
-
 #[test]
 fn signers_rise() {
     let mixed: Vec<u16> = (0..255u32).map(|i| (i * 2017 % 4096) as u16).collect();
@@ -175,20 +194,29 @@ fn signers_rise() {
         &mixed,
     ];
     for principals in lists {
-        let signers: BTreeSet<u16> = principals.iter().copied().collect();
-        let listed: String = signers.iter().map(|signer| format!(" {signer}")).collect();
-        let line = format!("granted {}{listed}", signers.len());
         // few statements in all, some more, and as many as can be
         let most = 256 - principals.len();
         for orders in [1, most.min(2), most] {
-            let file = signed(principals, orders);
-            for room in [signers.len(), 256, 300] {
-                assert_eq!(record_line(&file, room), line, "{principals:?}, {orders} orders");
-            }
-            if let Some(room) = signers.len().checked_sub(1) {
-                assert_eq!(record_line(&file, room), "refused 8 place 0", "{principals:?}");
+            // all papers are opened, or every other one, or none
+            let every_other: Vec<u16> = principals.iter().copied().step_by(2).collect();
+            for opened in [principals, &every_other, &[]] {
+                assert_signed(orders, principals, opened);
             }
         }
+    }
+}
+
+/// So many orders and the papers of these principals, of which some are opened: who signs.
+fn assert_signed(orders: usize, principals: &[u16], opened: &[u16]) {
+    let signers: BTreeSet<u16> = opened.iter().copied().collect();
+    let listed: String = signers.iter().map(|signer| format!(" {signer}")).collect();
+    let line = format!("granted {}{listed}", signers.len());
+    let file = bytes(&signed(orders, principals, opened));
+    for room in [signers.len(), 256, 300] {
+        assert_eq!(record_line(&file, room), line, "{principals:?}, {orders} orders");
+    }
+    if let Some(room) = signers.len().checked_sub(1) {
+        assert_eq!(record_line(&file, room), "refused 8 place 0", "{principals:?}");
     }
 }
 

@@ -22,7 +22,7 @@ pub struct Steps<'a> {
 /// One step: a rule, the formula that it names, if any, and the goal below it.
 pub struct Done<'a> {
     pub rule: Rule,
-    pub named: Option<&'a Formula>,
+    pub named: Option<&'a Tree>,
     pub goal: Judgment<'a>,
 }
 
@@ -61,12 +61,12 @@ impl<'a> Steps<'a> {
         let step = Step::read(word).ok_or(refusal(11))?;
         // Test 12: the formula that the number stands for is a hypothesis here.
         let is_hypothesis = |tree: &&'a Tree| sequent.hypotheses.contains(tree);
-        let named: Option<&'a Formula> = match step.named {
+        let named: Option<&'a Tree> = match step.named {
             None => None,
             Some(number) => Some(self.table.get(number).filter(is_hypothesis).ok_or(refusal(12))?),
         };
         // Tests 13 and 14: the rule fits.
-        let premises = premises(step.rule, sequent, named).map_err(refusal)?;
+        let premises = premises(step.rule, sequent, named.map(|tree| &**tree)).map_err(refusal)?;
         self.done.push(Done { rule: step.rule, named, goal: sequent.goal });
 
         let mut next = at + 1;
@@ -80,5 +80,11 @@ impl<'a> Steps<'a> {
     /// them)".
     pub fn end(&self, at: usize) -> Result<(), Refusal> {
         refuse_if(at < self.words.len(), 15, at)
+    }
+
+    /// The formulas that "some says-left step names" (02), of the steps that were done.
+    pub fn opened(&self) -> Vec<&'a Tree> {
+        let says_lefts = self.done.iter().filter(|step| step.rule == Rule::SaysLeft);
+        says_lefts.filter_map(|step| step.named).collect()
     }
 }

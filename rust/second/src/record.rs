@@ -1,7 +1,7 @@
 //! The record: sizes F, S, N and the goal's number; heads, seconds, statements, steps.
 
 use super::derivation::{Done, Steps};
-use super::formula::{Formula, Principal};
+use super::formula::{Formula, Principal, Tree};
 use super::layout::{lists, sizes, FORMULAS, MOST_STEPS, STATEMENTS};
 use super::refusal::{refuse_if, Refusal};
 use super::sequent::Hypotheses;
@@ -34,20 +34,25 @@ pub fn check_record_and(
     let goal = table.get(goal).ok_or(Refusal { number: 6, place: 0 })?;
     // Test 7.
     let statements = table.statements(&statements)?;
-    // Test 8. The signers are "the principals K of its statements of the form K says A, each once".
-    let signers: BTreeSet<u16> = statements
-        .iter()
-        .filter_map(|statement| match **statement {
-            Formula::Says(Principal(k), _) => Some(k),
-            _ => None,
-        })
-        .collect();
-    refuse_if(room < signers.len(), 8, 0)?;
     // Tests 9 to 15.
     let mut steps = Steps::new(&table, &words);
     let end = steps.proof(&Hypotheses::of(&statements), goal, 0)?;
     steps.end(end)?;
+    // Test 8: "tested after 15 and before 16" (02).
+    let signers = signers_of(&statements, &steps.opened());
+    refuse_if(room < signers.len(), 8, 0)?;
     last(&steps.done)?;
     // "Signers shall stand in rising principal number." (02) A set hands them out so.
     Ok(signers.into_iter().collect())
+}
+
+/// "A signer is now a principal K with a statement K says A that some says-left step names" (02),
+/// each once. Hypotheses are a set, so a statement is named where its formula is, whichever rule
+/// added that too; and a formula that is no statement makes no signer.
+fn signers_of(statements: &[Tree], opened: &[&Tree]) -> BTreeSet<u16> {
+    let signer = |statement: &Tree| match **statement {
+        Formula::Says(Principal(k), _) if opened.contains(&statement) => Some(k),
+        _ => None,
+    };
+    statements.iter().filter_map(signer).collect()
 }

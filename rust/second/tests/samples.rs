@@ -147,18 +147,94 @@ fn tables_and_lists() {
     for good in [(4095, 0), (4096, 0), (8192, 0), (12288, 0), (16384, 0), (20480, 0), (24575, 0)] {
         assert_eq!(exchange(&[(5, 0), good], &[], &[], &[]), Ok(()), "{good:?}");
     }
-    // 4 passes the whole table before 5; 5 gives the first later entry; then 6, 7 and 8.
+    // 4 passes the whole table before 5; 5 gives the first later entry; then 6 and 7.
     assert_eq!(record(&[(0, 0), (0, 0), (0, 1)], &[], 0, &[0]), refused(4, 2));
     assert_eq!(record(&[(0, 0), (1, 0), (1, 0), (0, 0)], &[9], 9, &[0]), refused(5, 2));
     assert_eq!(record(T, &[9], 3, &[0]), refused(6, 0));
     assert_eq!(record(T, &[1, 3, 65535], 2, &[0]), refused(7, 1));
     assert_eq!(exchange(T, &[0, 1], &[2, 3, 4], &[]), refused(7, 3));
     assert_eq!(exchange(T, &[0, 65535], &[3], &[]), refused(7, 1));
-    let steps = [SAYS_RIGHT, SAYS_LEFT + 1, AFFIRM, 0];
-    let two = record_file(T, &[2, 1, 2, 1, 0], 1, &steps);
-    assert_eq!(check_record(&two, 1), refused(8, 0));
-    assert_eq!(check_record(&two, 2), granted(&[7, 8]));
-    assert_eq!(check_record(&record_file(T, &[1], 0, &[65535]), 0), refused(8, 0));
+}
+
+/// 0 is A, 1 is 7 says A, 2 is 8 says A, 3 is 7 says 1, 4 is B, 5 is 7 says B, 6 is (1 and A), 7 is
+/// (A implies 1), 8 is (1 or 1), 9 is (1 and 2), 10 is (A and 1), 11 is (1 implies 1).
+const PAPERS: Table = &[
+    (0, 0),
+    (20487, 0),
+    (20488, 0),
+    (20487, 1),
+    (1, 0),
+    (20487, 4),
+    (12289, 0),
+    (8192, 1),
+    (16385, 1),
+    (12289, 2),
+    (12288, 1),
+    (8193, 1),
+];
+
+/// "A signer is now a principal K with a statement K says A that some says-left step names." (02)
+#[test]
+fn signers_carried_the_release() {
+    const OPEN_1: [u16; 4] = [SAYS_RIGHT, SAYS_LEFT + 1, AFFIRM, 0];
+    let after = |first: &[u16]| [first, &OPEN_1].concat();
+    for (about, statements, goal, steps, signers) in [
+        ("the paper of 8 lies unused", &[2, 1, 2, 1, 0][..], 1, OPEN_1.to_vec(), &[7][..]),
+        ("7 affirms, and its paper lies unused", &[0, 1], 1, vec![SAYS_RIGHT, AFFIRM, 0], &[]),
+        ("nobody affirms", &[1, 0], 0, vec![0], &[]),
+        ("two papers of 7, one unused", &[1, 5], 1, OPEN_1.to_vec(), &[7]),
+        ("two papers of 7, the other unused", &[5, 1], 1, OPEN_1.to_vec(), &[7]),
+        ("added by implies right", &[], 11, after(&[IMPLIES_RIGHT]), &[]),
+        ("added by and left", &[6], 1, after(&[AND_LEFT + 6]), &[]),
+        ("added by and left, and stated", &[6, 1], 1, after(&[AND_LEFT + 6]), &[7]),
+        ("added by and left, and another paper of 7", &[6, 5], 1, after(&[AND_LEFT + 6]), &[]),
+        ("added by implies left", &[0, 7], 1, after(&[IMPLIES_LEFT + 7, 0]), &[]),
+        ("added by implies left, and stated", &[0, 7, 1], 1, after(&[IMPLIES_LEFT + 7, 0]), &[7]),
+        ("added by or left", &[8], 1, [&[OR_LEFT + 8], &OPEN_1[..], &OPEN_1].concat(), &[]),
+        (
+            "added by says left",
+            &[3],
+            1,
+            vec![SAYS_RIGHT, SAYS_LEFT + 3, SAYS_LEFT + 1, AFFIRM, 0],
+            &[7],
+        ),
+        ("said by a paper, and unused", &[3, 0], 1, vec![SAYS_RIGHT, AFFIRM, 0], &[]),
+        ("opened in the second premise", &[0, 1], 10, after(&[AND_RIGHT, 0]), &[7]),
+        (
+            "one opened in either premise",
+            &[2, 1],
+            9,
+            [&[AND_RIGHT], &OPEN_1[..], &[SAYS_RIGHT, SAYS_LEFT + 2, AFFIRM, 0]].concat(),
+            &[7, 8],
+        ),
+    ] {
+        let file = record_file(PAPERS, statements, goal, &steps);
+        assert_eq!(check_record(&file, signers.len()), granted(signers), "{about}");
+        assert_eq!(check_record(&file, 256), granted(signers), "{about}");
+        if let Some(room) = signers.len().checked_sub(1) {
+            assert_eq!(check_record(&file, room), refused(8, 0), "{about}");
+        }
+    }
+}
+
+/// "Refusal 8 counts these and is tested after 15" (02): a short list with a wrong proof is what the
+/// proof is.
+#[test]
+fn the_list_is_tested_after_the_proof() {
+    for (statements, goal, steps, number, place) in [
+        (&[1, 2, 3][..], 1, &[SAYS_RIGHT, SAYS_LEFT + 1, AFFIRM, 0][..], 7, 2),
+        (&[1, 2], 1, &[SAYS_RIGHT, SAYS_LEFT + 1, AFFIRM], 9, 3),
+        (&[1, 2], 1, &[[SAYS_RIGHT].as_slice(), &[SAYS_LEFT + 1; 512]].concat(), 10, 512),
+        (&[1, 2], 1, &[SAYS_RIGHT, SAYS_LEFT + 1, 65535], 11, 2),
+        (&[1], 1, &[SAYS_RIGHT, SAYS_LEFT + 1, SAYS_LEFT + 2, AFFIRM, 0], 12, 2),
+        (&[1], 1, &[SAYS_RIGHT, SAYS_LEFT + 1, 0], 13, 2),
+        (&[1, 2], 1, &[SAYS_RIGHT, SAYS_LEFT + 1, SAYS_LEFT + 2, AFFIRM, 0], 14, 2),
+        (&[1, 2], 1, &[SAYS_RIGHT, SAYS_LEFT + 1, AFFIRM, 0, 0], 15, 4),
+        (&[1, 2], 1, &[SAYS_RIGHT, SAYS_LEFT + 1, AFFIRM, 0], 8, 0),
+    ] {
+        let file = record_file(T, statements, goal, steps);
+        assert_eq!(check_record(&file, 0), refused(number, place));
+    }
 }
 
 /// "Signers shall stand in rising principal number" (02), each once.
@@ -175,15 +251,20 @@ fn signers_rise() {
         (&[3, 2, 3], &[7, 8]),
         (&[7, 6, 7, 8, 6, 1], &[0, 63, 64, 4095]),
     ] {
-        assert_eq!(record(&table, &[statements, &[0]].concat(), 0, &[0]), granted(signers));
+        let (table, goal, steps) = all_opened(&table, statements);
+        assert_eq!(record(&table, &[statements, &[0]].concat(), goal, &steps), granted(signers));
     }
-    // As many as can be, in falling order.
+    // As many as can be, in falling order; and every other one of them.
     let all: Vec<u16> = (0..256).map(|i| 16 * i + 15).collect();
     let table: Vec<(u16, u16)> =
         [(0, 0)].into_iter().chain(all.iter().map(|k| (20480 + k, 0))).collect();
     let statements: Vec<u16> = (1..=256).rev().collect();
-    let steps = [SAYS_RIGHT, SAYS_LEFT + 1, AFFIRM, 0];
-    assert_eq!(record(&table, &statements, 1, &steps), granted(&all));
+    for every in [1, 2] {
+        let opened: Vec<u16> = statements.iter().copied().step_by(every).collect();
+        let signers: Vec<u16> = all.iter().copied().rev().step_by(every).rev().collect();
+        let (table, goal, steps) = all_opened(&table, &opened);
+        assert_eq!(record(&table, &statements, goal, &steps), granted(&signers));
+    }
 }
 
 /// The order of 11 to 14 at one step.
@@ -301,9 +382,8 @@ fn deep_trees() {
                 }
             })
             .collect();
-        let signers = if doubled { vec![] } else { vec![7] };
         assert_eq!(record(&chain, &all, 0, &[0]), refused(12, 0));
-        assert_eq!(record(&chain, &[&all[1..], &[0]].concat(), 0, &[0]), granted(&signers));
+        assert_eq!(record(&chain, &[&all[1..], &[0]].concat(), 0, &[0]), granted(&[]));
         assert_eq!(exchange(&chain, &all, &all, &[0]), refused(12, 0));
     }
     // Depth 512 of the derivation with the deepest comparison at its end: two chains of one height,

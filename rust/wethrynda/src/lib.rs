@@ -76,8 +76,9 @@ fn refusal(answer: u64) -> Option<(u8, usize)> {
 /// Checks a record: any bytes, of any length.
 ///
 /// Granted, its signers, principal numbers from 0 to 4095, stand at the start of the list that is
-/// lent, each once, strictly rising by number; the words after them are as they were. Refused, no
-/// word of the list has changed. A list shorter than the number of signers is refusal 8.
+/// lent, each once, strictly rising by number; the words after them are as they were. A signer is a
+/// principal K with a statement K says A that some says left of the proof names. Refused, no word of
+/// the list has changed. A list shorter than the number of signers is refusal 8, after all others.
 ///
 /// It needs about 300 KB of stack, which a thread has by default.
 pub fn check_record(file: &[u8], signers: &mut [u16]) -> Verdict {
@@ -113,7 +114,7 @@ pub fn check_exchange(file: &[u8]) -> Exchange {
 /// Written, the signers stand at the start of the list that is lent, as after [`check_record`], and
 /// the text at the start of the bytes that are lent; the words and the bytes after them are as they
 /// were. Refused, no word and no byte has changed. Bytes that are fewer than the whole text are
-/// refusal 16, after all others. A short proof may have a text that is too long for any memory: a
+/// refusal 16, after all others, and so after 8. A short proof may have a text that is too long for any memory: a
 /// record of some 16,000 bytes can have one of more than 2^4000.
 ///
 /// It needs about 800 KB of stack, which a thread has by default: a formula may be 4,095 operands

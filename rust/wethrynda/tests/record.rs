@@ -2,7 +2,11 @@
 //! it.
 mod common;
 
+use builder::papers::{all_opened, signed};
 use builder::samples::{A, T};
+use builder::steps::{AND_RIGHT, IMPLIES_RIGHT};
+use builder::table::Entry::{And, Atom, Implies, Says};
+use builder::texts::{doubled, tree};
 use common::{deepest, file_of, noise, on_a_small_stack, record, samples, top, Answer, Deepest};
 use std::fs;
 use wethrynda::{check_record, Verdict, MOST_SIGNERS};
@@ -197,9 +201,66 @@ fn the_first_reason_counts() {
     for (number, place, file, about) in rows {
         assert_refused(&file, MOST_SIGNERS, number, place, about);
     }
-    assert_refused(&record(&T, &[2, 3], 0, &[0]), 0, 7, 1, "7 before 8");
-    assert_refused(&record(&T, &[1, 2], 0, &[49152]), 1, 8, 0, "8 before the steps");
-    assert_refused(&record(&T, &[0], 1, &[0]), 0, 13, 0, "no signers, so no 8");
+}
+
+/// "Refusal 8 .. is tested after 15" (02): where principal 7 would sign and there is no room, each
+/// other reason counts first.
+#[test]
+fn the_list_is_tested_after_the_proof() {
+    let opened = |statements: &[u16], after: &[u16]| {
+        record(&T, statements, 1, &[&[40960, 45057], after].concat())
+    };
+    let rows = [
+        (7, 1, opened(&[1, 3], &[4096, 0]), "7 before 8"),
+        (9, 3, opened(&[1], &[4096]), "9 before 8"),
+        (10, 512, deep(510, &[4096, 0]), "10 before 8"),
+        (11, 2, opened(&[1], &[49152]), "11 before 8"),
+        (12, 2, opened(&[1], &[45058]), "12 before 8"),
+        (13, 2, opened(&[1], &[0]), "13 before 8"),
+        (14, 2, opened(&[1, 2], &[45058]), "14 before 8"),
+        (15, 4, opened(&[1], &[4096, 0, 49152]), "15 before 8"),
+        (8, 0, opened(&[1], &[4096, 0]), "8"),
+    ];
+    for (number, place, file, about) in rows {
+        assert_refused(&file, 0, number, place, about);
+    }
+}
+
+/// Atom 0; 7 and 8 say it; the atom implies that 7 says it; 7 says that 7 says it; both of them say
+/// it.
+const PAPERS: [(u16, u16); 6] = [(0, 0), (20487, 0), (20488, 0), (8192, 1), (20487, 1), (12289, 2)];
+
+/// "A signer is now a principal K with a statement K says A that some says-left step names." (02)
+#[test]
+fn only_those_who_carried_the_release() {
+    let opened = [40960, 45057, 4096, 0];
+    let by_order = [&[12291, 0], &opened[..]].concat();
+    let rows = [
+        (&[1, 2][..], 1, &opened[..], &[7][..], "the paper of 8 lies unused"),
+        (&[2, 4, 1], 1, &opened, &[7], "so does one of two papers of 7"),
+        (&[1, 0], 1, &[40960, 4096, 0], &[], "7 affirms and its paper lies unused"),
+        (&[1, 2, 0], 0, &[0], &[], "both papers lie unused"),
+        (&[0, 3], 1, &by_order, &[], "opened, and no statement"),
+        (&[0, 3, 4], 1, &by_order, &[], "opened, and no statement, and 7 has another paper"),
+        (&[0, 3, 1], 1, &by_order, &[7], "opened, added and a statement"),
+        (&[4, 2], 1, &[40960, 45060, 45057, 4096, 0], &[7], "opened, and what it says too"),
+        (
+            &[2, 1],
+            5,
+            &[&[20480], &opened[..], &[40960, 45058, 4096, 0]].concat(),
+            &[7, 8],
+            "one in each premise",
+        ),
+    ];
+    for (statements, goal, steps, signers, about) in rows {
+        let file = record(&PAPERS, statements, goal, steps);
+        for room in [signers.len(), signers.len() + 1, MOST_SIGNERS] {
+            assert_granted(&file, room, signers, about);
+        }
+        if let Some(room) = signers.len().checked_sub(1) {
+            assert_refused(&file, room, 8, 0, about);
+        }
+    }
 }
 
 #[test]
@@ -211,21 +272,6 @@ fn noise_is_refused() {
         assert!(is_refused, "{verdict:?} for {file:?}");
         assert_eq!(list, lent(5), "{file:?}");
     }
-}
-
-/// A record in which these principals say atom 0, in this order, after so many standing orders.
-fn signed(principals: &[u16], orders: usize) -> Vec<u8> {
-    let mut table = vec![(0, 0)];
-    let mut statements = vec![0; orders];
-    for principal in principals {
-        let entry = (20480 + principal, 0);
-        let paper = table.iter().position(|other| *other == entry).unwrap_or(table.len());
-        statements.push(paper as u16);
-        if paper == table.len() {
-            table.push(entry);
-        }
-    }
-    record(&table, &statements, 0, &[0])
 }
 
 #[test]
@@ -242,11 +288,15 @@ fn signers_rise() {
     for (principals, signers) in rows {
         // few statements, and as many as can be
         for orders in [1, 24, 256 - principals.len()] {
-            let file = signed(principals, orders);
+            let file = file_of(&signed(orders, principals, principals));
             let about = format!("{principals:?} after {orders} orders");
             assert_granted(&file, signers.len(), signers, &about);
             assert_granted(&file, MOST_SIGNERS, signers, &about);
             assert_refused(&file, signers.len() - 1, 8, 0, &about);
+            // none of them is opened
+            let file = file_of(&signed(orders, principals, &[]));
+            assert_granted(&file, 0, &[], &about);
+            assert_granted(&file, MOST_SIGNERS, &[], &about);
         }
     }
 }
@@ -255,43 +305,39 @@ fn signers_rise() {
 fn as_many_signers_as_statements() {
     // around those that are few to the check, and as many as can be
     for count in [23, 24, 25, 256] {
-        // atom 0, and what so many principals say of it, the last of them 4095
+        // the papers of so many principals, the last of them 4095, in falling order
         let principals: Vec<u16> = (0..count - 1).chain([4095]).collect();
-        let mut table = vec![(0, 0)];
-        table.extend(principals.iter().map(|principal| (20480 + principal, 0)));
-        let statements: Vec<u16> = (1..=count).rev().collect();
-        let file = record(&table, &statements, 1, &[40960, 45057, 4096, 0]);
+        let papers: Vec<u16> = principals.iter().copied().rev().collect();
+        let file = file_of(&signed(0, &papers, &principals));
         let (room, about) = (principals.len(), format!("{count} signers"));
         assert_granted(&file, room, &principals, &about);
         assert_granted(&file, 300, &principals, &about);
         assert_refused(&file, room - 1, 8, 0, &about);
+        // every other one is opened
+        let signers: Vec<u16> = principals.iter().copied().step_by(2).collect();
+        let file = file_of(&signed(0, &papers, &signers));
+        assert_granted(&file, signers.len(), &signers, &about);
+        assert_refused(&file, signers.len() - 1, 8, 0, &about);
     }
 }
 
 /// A record of the greatest size, and its signers: 4,096 entries, 256 statements, 16,384 steps.
 fn largest() -> (Vec<u8>, Vec<u16>) {
-    // entry 0 is atom 0, and each of the 13 after it the one before it and itself; entry 14 is atom
-    // 0 implies the last
-    let mut table = vec![(0, 0)];
-    table.extend((0..13).map(|operand| (12288 + operand, operand)));
-    table.push((8192, 13));
+    // entry n is atom 0 doubled n times; these make 7,552 atoms in all
+    let mut table = doubled(12, And);
+    let (last, others) = (7, [12, 11, 10, 8]);
+    let doubles = others.iter().rfold(last, |goal, &times| table.number(And(times, goal)));
+    let implied = table.number(Implies(0, doubles));
+    let mut steps = vec![IMPLIES_RIGHT];
+    others.iter().for_each(|&times| steps.extend([&[AND_RIGHT], &tree(times)[..]].concat()));
+    steps.extend(tree(last));
+    // and 256 papers, all of them opened
     let signers: Vec<u16> = (0..256).collect();
-    table.extend(signers.iter().map(|principal| (20480 + principal, 0)));
-    table.extend((1..).map(|atom| (atom, 0)).take(4096 - table.len()));
-    let statements: Vec<u16> = (15..271).collect();
-    // implies right, and then a tree of and right, whose 8,192 tops are init
-    fn tree(height: usize, steps: &mut Vec<u16>) {
-        if height == 0 {
-            steps.push(0);
-        } else {
-            steps.push(20480);
-            tree(height - 1, steps);
-            tree(height - 1, steps);
-        }
-    }
-    let mut steps = vec![8192];
-    tree(13, &mut steps);
-    (record(&table, &statements, 14, &steps), signers)
+    let papers: Vec<u16> = signers.iter().map(|&signer| table.number(Says(signer, 0))).collect();
+    let (all, opened) = all_opened(&mut table, &papers, 0);
+    let goal = table.number(And(all, implied));
+    (1..=4096 - table.len() as u16).for_each(|atom| _ = table.number(Atom(atom)));
+    (record(&table, &papers, goal, &[&[AND_RIGHT], &opened[..], &steps].concat()), signers)
 }
 
 #[test]
@@ -316,7 +362,7 @@ fn a_stack_as_large_as_the_header_says() {
         assert_refused(&deep(510, &[4096, 0]), 1, 10, 512, "513 deep");
         assert_granted(&largest, MOST_SIGNERS, &signers, "the largest record");
         let over_table = |goal, steps: &[u16]| record(&table, &statements, goal, steps);
-        assert_granted(&over_table(goal, &proof), 1, &[7], "512 deep, a call for each step");
+        assert_granted(&over_table(goal, &proof), 0, &[], "512 deep, a call for each step");
         for (about, goal, steps) in too_deep {
             let file = over_table(goal, &steps);
             assert_eq!(file.len(), 49_672);

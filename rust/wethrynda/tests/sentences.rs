@@ -2,6 +2,7 @@
 //! byte of the text that are lent to it.
 mod common;
 
+use builder::samples::T;
 use builder::table::Entry::And;
 use builder::texts::{doubled, tree, tree_goals, MOST_TEXT};
 use common::{deepest, noise, on_a_small_stack, record, samples, Answer, Deepest};
@@ -52,7 +53,7 @@ fn assert_sentences(file: &[u8], signers: &[u16], text: &str, about: &str) {
         assert_refused(file, [words, few], 16, 0, about);
         assert_refused(file, [MOST_SIGNERS, few], 16, 0, about);
     }
-    // 8 stands before the steps, and 16 after them
+    // 8 "is tested after 15 and before 16" (02)
     if words > 0 {
         for bytes in [0, bytes - 1, bytes, bytes + 1] {
             assert_refused(file, [words - 1, bytes], 8, 0, about);
@@ -61,14 +62,31 @@ fn assert_sentences(file: &[u8], signers: &[u16], text: &str, about: &str) {
     }
 }
 
+const TEXT_OF_A: &str = "0 says right for (p7 says a0)\n\
+                         1 says left (p7 says a0) for p7 affirms a0\n\
+                         2 affirm for p7 affirms a0\n\
+                         3 init a0 for a0\n";
+
 #[test]
 fn record_a_as_document_02_writes_it() {
     let file = record(&[(0, 0), (20487, 0)], &[1], 1, &[40960, 45057, 4096, 0]);
-    let text = "0 says right for (p7 says a0)\n\
-                1 says left (p7 says a0) for p7 affirms a0\n\
-                2 affirm for p7 affirms a0\n\
-                3 init a0 for a0\n";
-    assert_sentences(&file, &[7], text, "A");
+    assert_sentences(&file, &[7], TEXT_OF_A, "A");
+}
+
+/// "Refusal 8 .. is tested after 15 and before 16" (02). Of principals 7 and 8 only 7 signs.
+#[test]
+fn the_list_is_tested_after_the_proof() {
+    let over_t = |steps: &[u16]| record(&T, &[2, 1], 1, steps);
+    assert_sentences(&over_t(&[40960, 45057, 4096, 0]), &[7], TEXT_OF_A, "a paper lies unused");
+    let rows = [
+        (9, 3, over_t(&[40960, 45057, 4096]), "9 before 8 and 16"),
+        (14, 2, over_t(&[40960, 45057, 45058]), "14 before 8 and 16"),
+        (15, 4, over_t(&[40960, 45057, 4096, 0, 0]), "15 before 8 and 16"),
+        (8, 0, over_t(&[40960, 45057, 4096, 0]), "8 before 16"),
+    ];
+    for (number, place, file, about) in rows {
+        assert_refused(&file, [0, 0], number, place, about);
+    }
 }
 
 #[test]
@@ -95,7 +113,7 @@ fn every_sample() {
             (Answer::Equal, _) => panic!("{name} is no record"),
         }
     }
-    assert!(written >= 29, "{written} samples have sentences");
+    assert!(written >= 33, "{written} samples have sentences");
     assert_eq!(too_long, ["doubled-40-times.record"]);
 }
 
@@ -208,7 +226,7 @@ fn a_stack_as_large_as_the_header_says() {
             assert_sentences(&file, &[], &text, "4,095 operands deep");
         }
         let mut text = vec![0; 1 << 22];
-        let answer = write_sentences(&deep, &mut [0], &mut text);
-        assert!(matches!(answer, Sentences::Written { signers: 1, .. }), "{answer:?}");
+        let answer = write_sentences(&deep, &mut [], &mut text);
+        assert!(matches!(answer, Sentences::Written { signers: 0, .. }), "{answer:?}");
     });
 }

@@ -4,6 +4,7 @@ use super::prover::{truth, Goal, Prover};
 use super::{File, Sizes};
 use builder::crowded::{fill_crowded, most_at_one_root};
 use builder::layout;
+use builder::papers::signed;
 use builder::random::Random;
 use builder::steps::{code, AND_RIGHT};
 use builder::table::Entry::{And, Implies, Or, Says};
@@ -99,6 +100,12 @@ pub fn exchange(sizes: Sizes) -> File {
     let mut random = Random::by_remainder(2);
     let (table, base) = filled(sizes.formulas, &mut random);
     exchange_over(&table, base, sizes, random)
+}
+
+/// A record with so many papers, each of another principal, in no order, and all of them opened.
+pub fn signed_record(papers: usize) -> File {
+    let principals: Vec<u16> = (0..papers).map(|paper| (paper * 2017 % 4096) as u16).collect();
+    File::record(&signed(0, &principals, &principals))
 }
 
 fn crowded(formulas: usize) -> (ProvableTable, Vec<u16>) {

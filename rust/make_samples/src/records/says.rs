@@ -2,6 +2,7 @@
 use super::record;
 use crate::record::Record;
 use crate::sample::{sample, Section};
+use builder::papers::{all_opened, opened};
 use builder::steps::*;
 use builder::table::Entry::{And, Atom, False, Implies, Or, Says};
 use builder::table::Table;
@@ -184,36 +185,53 @@ pub fn signers() -> Section<Record> {
     let both = papers.number(And(a0, a1));
     let p7_both = papers.number(Says(7, both));
 
-    // a paper of p7 and two of p8
+    // papers of p7 and p8, and a claim that takes both
     let mut two = Table::default();
     let t0 = two.number(Atom(0));
     let t7 = two.number(Says(7, t0));
     let t8 = two.number(Says(8, t0));
-    let t1 = two.number(Atom(1));
-    let t8_too = two.number(Says(8, t1));
-    let t7_is_said = [SAYS_RIGHT, SAYS_LEFT + t7, AFFIRM, INIT + t0];
+    let (by_both, by_both_steps) = all_opened(&mut two, &[t8, t7], t0);
+
+    // a paper of p7 and two of p8
+    let mut three = Table::default();
+    let h0 = three.number(Atom(0));
+    let h7 = three.number(Says(7, h0));
+    let h8 = three.number(Says(8, h0));
+    let h1 = three.number(Atom(1));
+    let h8_too = three.number(Says(8, h1));
+    let h0_and_h1 = three.number(And(h0, h1));
+    let h8_says_both = three.number(Says(8, h0_and_h1));
+    let by_three = three.number(And(h8_says_both, h7));
 
     // a paper of each of four
     let mut four = Table::default();
     let f0 = four.number(Atom(0));
     let papers_of_four = [4095, 10, 9, 0].map(|k| four.number(Says(k, f0)));
-    let of_p0 = papers_of_four[3];
+    let (by_four, by_four_steps) = all_opened(&mut four, &papers_of_four, f0);
 
-    // an order that names p7
+    // an order that names p7, and one that gives p7's word
     let mut order = Table::default();
     let o0 = order.number(Atom(0));
     let o1 = order.number(Atom(1));
     let o7 = order.number(Says(7, o0));
     let if_p7_says = order.number(Implies(o7, o1));
+    let mut word = Table::default();
+    let w0 = word.number(Atom(0));
+    let w1 = word.number(Atom(1));
+    let w7 = word.number(Says(7, w1));
+    let p7_says_if = word.number(Implies(w0, w7));
+    let by_the_order = [&[IMPLIES_LEFT + p7_says_if, INIT + w0], &opened(w7, w1)[..]].concat();
 
     Section {
         title: "Who signs",
-        about: "The signers are the principals K of the statements of the form K says A, each \
-                once, in rising number. What is proved has no part in it.",
+        about: "The signers are the principals K of the statements of the form K says A that some \
+                says left names, each once, in rising number: only those who carried the release. \
+                A paper that lies unused makes no signer, and neither does a says-formula that is \
+                no statement.",
         samples: vec![
             sample(
                 "two-papers-one-signer",
-                "Two papers of one principal: one signer.",
+                "Two papers of one principal, both opened: one signer.",
                 record(
                     &papers,
                     &[p7_a0, p7_a1],
@@ -231,6 +249,13 @@ pub fn signers() -> Section<Record> {
                 "granted 1 7",
             ),
             sample(
+                "two-papers-one-used",
+                "Two papers of one principal, of which one is opened. The other lies unused, and \
+                 p7 is a signer by the first.",
+                record(&papers[..4], &[p7_a0, p7_a1], p7_a0, &opened(p7_a0, a0)),
+                "granted 1 7",
+            ),
+            sample(
                 "two-things-in-one-paper",
                 "One paper that says two things; and left takes them apart.",
                 record(
@@ -243,34 +268,47 @@ pub fn signers() -> Section<Record> {
             ),
             sample(
                 "unused-paper",
-                "No step names the paper of p8, and p8 is a signer all the same.",
-                record(&two[..3], &[t7, t8], t7, &t7_is_said),
-                "granted 2 7 8",
+                "No step names the paper of p8. It lies unused, and p8 is no signer.",
+                record(&two[..3], &[t7, t8], t7, &opened(t7, t0)),
+                "granted 1 7",
+            ),
+            sample(
+                "unused-paper-of-who-affirms",
+                "The goal is that p7 says a0, and p7 affirms it on the way; but a0 is a standing \
+                 order, as in B, and the paper of p7 lies unused. To affirm is not to sign: the \
+                 record has no signer.",
+                record(&two[..3], &[t0, t7], t7, &[SAYS_RIGHT, AFFIRM, INIT + t0]),
+                "granted 0",
             ),
             sample(
                 "eight-before-seven",
-                "The paper of p8 stands before p7's. Signers are listed by number, so 7 comes \
-                 first.",
-                record(&two[..3], &[t8, t7], t7, &t7_is_said),
+                "The paper of p8 stands before p7's and is opened before it. Signers are listed \
+                 by number, so 7 comes first.",
+                record(&two, &[t8, t7], by_both, &by_both_steps),
                 "granted 2 7 8",
             ),
             sample(
                 "signer-first-and-last",
-                "The first paper and the last are p8's, and the one between is p7's: p8 is one \
-                 signer, and is listed after p7.",
-                record(&two, &[t8, t7, t8_too], t7, &t7_is_said),
+                "The first paper and the last are p8's, and the one between is p7's, and all \
+                 three are opened: p8 is one signer, and is listed after p7.",
+                record(
+                    &three,
+                    &[h8, h7, h8_too],
+                    by_three,
+                    &[
+                        &[AND_RIGHT, SAYS_RIGHT, SAYS_LEFT + h8, SAYS_LEFT + h8_too, AFFIRM],
+                        &[AND_RIGHT, INIT + h0, INIT + h1][..],
+                        &opened(h7, h0),
+                    ]
+                    .concat(),
+                ),
                 "granted 2 7 8",
             ),
             sample(
                 "four-signers",
-                "Papers of p4095, p10, p9 and p0, in this order. The number counts and not its \
-                 figures: 9 is listed before 10, and 0 first of all.",
-                record(
-                    &four,
-                    &papers_of_four,
-                    of_p0,
-                    &[SAYS_RIGHT, SAYS_LEFT + of_p0, AFFIRM, INIT + f0],
-                ),
+                "Papers of p4095, p10, p9 and p0, opened in this order. The number counts and not \
+                 its figures: 9 is listed before 10, and 0 first of all.",
+                record(&four, &papers_of_four, by_four, &by_four_steps),
                 "granted 4 0 9 10 4095",
             ),
             sample(
@@ -283,6 +321,21 @@ pub fn signers() -> Section<Record> {
                     &[IMPLIES_LEFT + if_p7_says, SAYS_RIGHT, AFFIRM, INIT + o0, INIT + o1],
                 ),
                 "granted 0",
+            ),
+            sample(
+                "order-gives-a-word",
+                "An order from which it follows that p7 says a1: implies left adds this, and says \
+                 left opens it. It is no statement, so p7 has not signed, and the record has no \
+                 signer.",
+                record(&word, &[w0, p7_says_if], w7, &by_the_order),
+                "granted 0",
+            ),
+            sample(
+                "order-gives-a-word-and-paper",
+                "The same steps where p7's paper says a1 too. The paper and what the order gives \
+                 are one hypothesis, which says left names: p7 is a signer.",
+                record(&word, &[w0, p7_says_if, w7], w7, &by_the_order),
+                "granted 1 7",
             ),
         ],
     }

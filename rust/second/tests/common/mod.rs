@@ -37,3 +37,19 @@ pub fn record_file(table: Table, statements: &[u16], goal: u16, steps: &[u16]) -
 pub fn exchange_file(table: Table, first: &[u16], second: &[u16], steps: &[u16]) -> Vec<u8> {
     file([table.len(), first.len(), second.len(), steps.len()], table, &[first, second, steps])
 }
+
+/// Adds the ands of these papers of atom 0 to a table. The last of them is the goal, and each paper
+/// is proved from itself, in this order, and so opened.
+pub fn all_opened(table: Table, papers: &[u16]) -> (Vec<(u16, u16)>, u16, Vec<u16>) {
+    let (last, others) = papers.split_last().expect("a paper");
+    let (mut table, mut goal) = (table.to_vec(), *last);
+    for paper in others.iter().rev() {
+        table.push((3 * 4096 + paper, goal));
+        goal = table.len() as u16 - 1;
+    }
+    let opened = |paper: &u16| [SAYS_RIGHT, SAYS_LEFT + paper, AFFIRM, 0];
+    let mut steps: Vec<u16> =
+        others.iter().flat_map(|paper| [&[AND_RIGHT], &opened(paper)[..]].concat()).collect();
+    steps.extend(opened(last));
+    (table, goal, steps)
+}

@@ -7,7 +7,7 @@ use builder::table::Table;
 pub struct Deepest {
     /// 4,096 entries, the first an atom.
     pub table: Table,
-    /// 256 statements, the first the atom. Principal 7 is the one signer.
+    /// 256 statements, the first the atom. The papers are principal 7's, and the proof opens none.
     pub statements: Vec<u16>,
     /// A proof of a goal, from the atom, that is 512 deep.
     pub goal: u16,

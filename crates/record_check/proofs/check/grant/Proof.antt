@@ -1,4 +1,4 @@
--- `record_check::check::grant` meets its contract: what `write_signers` writes, and its count. Assumes nothing.
+-- `record_check::check::grant` meets its contract: what `list_signers` writes, and its count. Assumes nothing.
 use borrow.Author.Needs.{needs}
 use Rattle.record_check.proofs.check.grant.Statement.{statement}
 use Rattle.record_check.proofs.check.grant.Tie as tie

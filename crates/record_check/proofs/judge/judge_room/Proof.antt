@@ -9,14 +9,14 @@ use Rattle.record_check.proofs.judge.judge_room.Statement.{statement}
 use Rattle.record_check.proofs.judge.judge_room.Tie as tie
 
 returns : tie.Need-returns
-returns c = refused-8 _ _ _ _ (omega (arith, ltb-true, c .before .signer-count .ensures))
+returns c = refused-8 _ _ _ _ _ (omega (arith, ltb-true, c .before .count-signers .ensures))
 
 returns-2 : tie.Need-returns-2
 returns-2 c =
-    let a = c .before .before .before .before .args in
+    let a = c .before .before .before .before .before .args in
     ⊎-elim
-    (λ w. passed-8 _ _ _ _ (omega (arith, ltb-false, w .1 .ensures)))
-    (λ w. passed-by-S (a .heads .now) (a .seconds .now) (a .statements .now) (a .room) (omega arith))
+    (λ w. passed-8 _ _ _ _ _ (omega (arith, ltb-false, w .1 .ensures)))
+    (λ w. passed-by-S (a .heads .now) (a .seconds .now) (a .statements .now) (a .steps .now) (a .room) (omega arith))
     (c .if1 .came)
 
 pub judge-room-spec : {M : Type 1} → statement M

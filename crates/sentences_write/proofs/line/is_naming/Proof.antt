@@ -1,5 +1,5 @@
 -- `line::is_naming` meets its contract: the table, read at a code that is known. Assumes nothing.
-use Rattle.sentences_write.specs.Naming.{isNaming}
+use Rattle.steps.specs.Naming.{isNaming}
 use Rattle.sentences_write.proofs.Named.{naming-of, naming-none}
 use Rattle.sentences_write.proofs.line.is_naming.Statement.{statement}
 use Rattle.sentences_write.proofs.line.is_naming.Tie as tie

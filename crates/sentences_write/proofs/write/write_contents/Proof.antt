@@ -3,7 +3,7 @@
 use native.Mathlib.Omega.{arith}
 use mathlib.Core.Path.{refl}
 use borrow.Author.Needs.{needs}
-use Rattle.sentences_write.proofs.Arrays.{few-entries, refused-to-15, refused-16, all-written}
+use Rattle.sentences_write.proofs.Arrays.{few-entries, refused-to-8, refused-16, all-written}
 use Rattle.sentences_write.proofs.write.write_contents.Statement.{statement}
 use Rattle.sentences_write.proofs.write.write_contents.Tie as tie
 
@@ -11,7 +11,7 @@ returns : tie.Need-returns
 returns c =
     let t = c .before .before .before in
     let a = t .before .before .before .before .before .before .before .args in (
-      refused-to-15 (a .heads .now) (a .seconds .now) (a .statements .now) (a .goal) (a .steps .now) _ _
+      refused-to-8 (a .heads .now) (a .seconds .now) (a .statements .now) (a .goal) (a .steps .now) _ _
           (t .judge-contents .ensures) (c .before .number .given .1),
       (refl, refl),
     )
@@ -52,9 +52,9 @@ returns-3 c =
     (z .before .before .before .before .before .before .before .before .enum-told .given .1) (start .pre)
     (w .write-goals .ensures .0) (w .write-goals .ensures .1) (z .whole-length .ensures)
     (omega (arith, start .good .1 .1 .1 .1 .1 .1 .0 .1))
-    (a .text .now) (f .before .before .before .before .if1 .left) refl (s .write-signers .ensures .0)
+    (a .text .now) (f .before .before .before .before .if1 .left) refl (s .list-signers .ensures .0)
     (f .fill-lines .ensures) in
-    (is, (s .write-signers .ensures .1, filled))
+    (is, (s .list-signers .ensures .1, filled))
 
 pub write-contents-spec : {M : Type 1} → statement M
 write-contents-spec =

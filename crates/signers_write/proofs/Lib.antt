@@ -1,0 +1,5 @@
+-- The laws behind the code.
+pub mod Insert
+pub mod Flags
+pub mod Loops
+pub mod Marking
