@@ -207,6 +207,7 @@ pub fn signers() -> Section<Record> {
     let mut four = Table::default();
     let f0 = four.number(Atom(0));
     let papers_of_four = [4095, 10, 9, 0].map(|k| four.number(Says(k, f0)));
+    let of_p0 = papers_of_four[3];
     let (by_four, by_four_steps) = all_opened(&mut four, &papers_of_four, f0);
 
     // an order that names p7, and one that gives p7's word
@@ -220,6 +221,7 @@ pub fn signers() -> Section<Record> {
     let w1 = word.number(Atom(1));
     let w7 = word.number(Says(7, w1));
     let p7_says_if = word.number(Implies(w0, w7));
+    let w7_too = word.number(Says(7, w0));
     let by_the_order = [&[IMPLIES_LEFT + p7_says_if, INIT + w0], &opened(w7, w1)[..]].concat();
 
     Section {
@@ -312,6 +314,12 @@ pub fn signers() -> Section<Record> {
                 "granted 4 0 9 10 4095",
             ),
             sample(
+                "four-papers-one-used",
+                "The same papers, of which p0's alone is opened: p0 is the one signer.",
+                record(&four[..5], &papers_of_four, of_p0, &opened(of_p0, f0)),
+                "granted 1 0",
+            ),
+            sample(
                 "order-names-a-principal",
                 "A standing order that speaks of p7 is no paper of p7: the record has no signer.",
                 record(
@@ -327,15 +335,22 @@ pub fn signers() -> Section<Record> {
                 "An order from which it follows that p7 says a1: implies left adds this, and says \
                  left opens it. It is no statement, so p7 has not signed, and the record has no \
                  signer.",
-                record(&word, &[w0, p7_says_if], w7, &by_the_order),
+                record(&word[..4], &[w0, p7_says_if], w7, &by_the_order),
                 "granted 0",
             ),
             sample(
                 "order-gives-a-word-and-paper",
                 "The same steps where p7's paper says a1 too. The paper and what the order gives \
                  are one hypothesis, which says left names: p7 is a signer.",
-                record(&word, &[w0, p7_says_if, w7], w7, &by_the_order),
+                record(&word[..4], &[w0, p7_says_if, w7], w7, &by_the_order),
                 "granted 1 7",
+            ),
+            sample(
+                "order-gives-a-word-and-another-paper",
+                "The same steps where p7's paper says a0. It lies unused, and what says left names \
+                 is another word of p7's, which is no statement: the record has no signer.",
+                record(&word, &[w0, p7_says_if, w7_too], w7, &by_the_order),
+                "granted 0",
             ),
         ],
     }
