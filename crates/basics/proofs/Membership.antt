@@ -2,11 +2,12 @@
 -- position; the test for membership. Assumes nothing.
 use Prim.Native.Nat.{ℕ, zero, suc, _<_}
 use native.Mathlib.Omega.{arith}
-use mathlib.Core.Bool.{Bool, true, false, false≢true}
-use mathlib.Core.Path.{_≡_, refl, sym, subst}
+use mathlib.Core.Bool.{Bool, true, false, false≢true, true≢false}
+use mathlib.Core.Path.{_≡_, refl, sym, ap, subst}
 use mathlib.Core.Logic.{_↔_, ⊎-elim}
+use mathlib.Core.Option.{some}
 use mathlib.Core.List.{List, [], _∷_, _++_, List·Memᴰ·head, List·Memᴰ·tail, List·Memᴰ·cases-cons, List·Memᴰ·not-nil, Memᴰ·cast, Memᴰ·append-left, Memᴰ·append-right, List·Memᴰ·append-cases}
-use lib.ListN.{length, getD}
+use lib.ListN.{length, getD, getElem?}
 use lib.Dec.{eqb}
 use borrow.Author.Tests.{eqb-true, eqb-false}
 use Rattle.basics.specs.Choice.{pick}
@@ -76,6 +77,20 @@ pub at-each : (P : ℕ → Type 0) (l : List ℕ) → ((i : ℕ) → i < length 
 at-each P [] each n m = absurd (List·Memᴰ·not-nil m)
 at-each P (k ∷ l) each n m =
     ⊎-elim (λ e. subst P (sym e) (each zero (omega arith))) (at-each P l (λ i b. each (suc i) (omega arith)) n) (List·Memᴰ·cases-cons m)
+
+-- Where a member stands, by either way to read a place.
+pub place-of : {A : Type 0} {a : A} {l : List A} → a ∈ l → (i : ℕ) × (i < length l) × (getElem? l i ≡ some a)
+place-of (List·Memᴰ·head e) = (0, omega arith, ap some (sym e))
+place-of (List·Memᴰ·tail m) = let (i, l, e) = place-of m in (suc i, omega arith, e)
+
+pub at-place : {A : Type 0} {a : A} (l : List A) (i : ℕ) → getElem? l i ≡ some a → a ∈ l
+at-place [] i e = absurd (true≢false cc)
+at-place {a = a} (b ∷ l) zero e = List·Memᴰ·head (let same : a ≡ b = cc in same)
+at-place (b ∷ l) (suc i) e = List·Memᴰ·tail (at-place l i e)
+
+pub word-place : {w : ℕ} {ws : List ℕ} → w ∈ ws → (i : ℕ) × (i < length ws) × (getD ws i 0 ≡ w)
+word-place (List·Memᴰ·head e) = (0, omega arith, sym e)
+word-place (List·Memᴰ·tail m) = let (i, l, e) = word-place m in (suc i, omega arith, e)
 
 -- ---- the test for membership
 

@@ -234,7 +234,7 @@ in-row a (suc k) n l m =
     (λ e.
     let other : ¬ (a ≡ n) = λ is. true≢false (sym (eq-eqb a n is) ∙ e) in List·Memᴰ·tail (in-row (suc a) k n (omega (arith, other)) (omega arith)))
 
--- ---- 01's order
+-- ---- the checking order
 
 pub is-distinct : distinct checkingOrder ≡ true
 unfolding distinct holds
@@ -386,4 +386,4 @@ first-is-lowest Reason range number p = (
 
 pub samples : Samples
 unfolding before
-samples = (refl, refl, refl)
+samples = (refl, refl, refl, refl)

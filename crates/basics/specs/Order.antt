@@ -46,4 +46,5 @@ abbrev pub Samples : Type 0
 Samples =
     (before (18 ∷ 1 ∷ 2 ∷ 7 ∷ 9 ∷ 15 ∷ 8 ∷ []) 8 ≡ 18 ∷ 1 ∷ 2 ∷ 7 ∷ 9 ∷ 15 ∷ [])
     × (before (18 ∷ 1 ∷ 2 ∷ 7 ∷ 9 ∷ 15 ∷ 8 ∷ []) 18 ≡ [])
-    × (before checkingOrder 4 ≡ 1 ∷ 2 ∷ 3 ∷ [])
+    × (before checkingOrder 9 ≡ 1 ∷ 2 ∷ 3 ∷ 4 ∷ 5 ∷ 6 ∷ 7 ∷ [])
+    × (before checkingOrder 8 ≡ 1 ∷ 2 ∷ 3 ∷ 4 ∷ 5 ∷ 6 ∷ 7 ∷ 9 ∷ 10 ∷ 11 ∷ 12 ∷ 13 ∷ 14 ∷ 15 ∷ [])

@@ -4,7 +4,7 @@ use mathlib.Core.Path.{refl}
 use Rattle.basics.proofs.Membership.{first, second}
 use Rattle.logic.specs.Derivation.{init, affirm, implies-left, and-right, and-left, says-right, says-left}
 use Rattle.logic.specs.Figure1.{Same}
-use Rattle.logic.specs.Samples.{FirstPremiseIsTruth, SampleA, SampleB, SampleC, SampleD, SampleF, SampleK, FirstPremiseFirst}
+use Rattle.logic.specs.Samples.{FirstPremiseIsTruth, SampleA, SampleB, SampleC, SampleD, SampleF, SampleK, FirstPremiseFirst, OpenedInBoth}
 use Rattle.logic.specs.Misreadings.{Anybody, OtherThan}
 use Rattle.logic.proofs.FromSigned.{none-signed, one-signed, from-signed}
 use Rattle.logic.proofs.Force.{each-nil, each-cons}
@@ -12,10 +12,10 @@ use Rattle.logic.proofs.Figure1.{figure1}
 use Rattle.logic.proofs.Misreadings.{signed-give-no-atom, says-gives-no-atom}
 
 pub sample-a : SampleA
-sample-a = (says-right (says-left first refl (affirm (init first))), refl)
+sample-a = (says-right (says-left first refl (affirm (init first))), refl, refl)
 
 pub sample-b : SampleB
-sample-b = (says-right (affirm (init first)), refl)
+sample-b = (says-right (affirm (init first)), refl, refl)
 
 pub sample-c : SampleC
 sample-c = says-gives-no-atom 7 0
@@ -38,3 +38,12 @@ first-premise-first = (and-right (says-right (affirm (init first))) (init first)
 
 pub first-premise-is-truth : FirstPremiseIsTruth
 first-premise-is-truth = (implies-left first (init second) (affirm (init first)), refl)
+
+pub opened-in-both : OpenedInBoth
+opened-in-both = (
+  and-right
+      (says-right (says-left second refl (affirm (init first))))
+      (says-right (says-left first refl (affirm (init first)))),
+  refl,
+  refl,
+)

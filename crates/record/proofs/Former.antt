@@ -13,7 +13,7 @@ use Rattle.basics.specs.declared.tested.Tested.{Tested}
 use Rattle.basics.specs.declared.tested.Tested.the-variants as Outcome
 use Rattle.basics.specs.Choice.{pick}
 use Rattle.basics.specs.Refusals.{Test, test, at0, firstRefusal, unlessRefused}
-use Rattle.basics.proofs.Refusals.{passed-by-all, joined-refused, joined-passed}
+use Rattle.basics.proofs.Refusals.{not-passed, passed-by-all, joined-refused, joined-passed}
 use Rattle.steps.specs.declared.verdict.WalkVerdict.{WalkVerdict}
 use Rattle.steps.specs.declared.verdict.WalkVerdict.the-variants as Walk
 use Rattle.steps.specs.Run.{walked}
@@ -25,6 +25,8 @@ use Rattle.record.specs.Answer.{stepVerdict, testsTo7, recordAnswer}
 use Rattle.record.specs.Former.{formerSigners, FormerSignersSpelled, formerAnswer, FormerEight, ArchiveKept}
 use Rattle.record.proofs.Answered.{not-granted}
 use Rattle.record.proofs.Keeps.{none-to-7}
+use Rattle.record.proofs.Reasons.{step-number}
+use Rattle.record.proofs.Eight.{eight-exactly}
 
 pub former-signers-spelled : FormerSignersSpelled
 former-signers-spelled file keeps K =
@@ -100,14 +102,6 @@ module _ (file : List ℕ) (room : ℕ) where
       (λ t. formerly t (stepVerdict file) former-short (length (formerSigners file))) (λ number p. refl)
       (list-first (stepVerdict file) former-short (length (formerSigners file)))
 
-pub former-eight : FormerEight
-former-eight file room keeps less =
-    let passes = passed-by-all (testsTo7 file) .1 (none-to-7 file .1 keeps) in
-    former-is file room
-    ∙ ap (λ (t : Tested). formerly t (stepVerdict file) (former-short file room) (length (formerSigners file))) passes
-    ∙ ap (λ (b : Bool). formerly Outcome.Passed (stepVerdict file) b (length (formerSigners file)))
-    (lt-ltb room (length (formerSigners file)) less)
-
 -- ---- what becomes of them, where the list is short now only if it was before, and the count is no larger
 
 granted-stays : (t : Tested) (v : WalkVerdict) (short former : Bool) (count most : ℕ) → (short ≡ true → former ≡ true)
@@ -149,6 +143,64 @@ same-refused Outcome.Passed (Walk.Refused m q) count most number p = (λ e. e, �
 same-refused Outcome.Passed (Walk.Closed q) count most number p =
     (λ e. absurd (not-granted (sym e)), λ e. absurd (not-granted (sym e)))
 
+-- Refusals by 1 to 7 are the same: neither the list nor a step gives one of these numbers.
+same-low : (t : Tested) (v : WalkVerdict) (short former : Bool) (count most number p : ℕ)
+    → ((n q : ℕ) → v ≡ Walk.Refused n q → 9 ≤ n) → number ≤ 7
+    → answered t v short count ≡ Refused number p ↔ formerly t v former most ≡ Refused number p
+same-low (Outcome.Refused m q) v short former count most number p steps few = (λ e. e, λ e. e)
+same-low Outcome.Passed v short former count most number p steps few = (
+  λ e. absurd (not-now v short steps e),
+  λ e. absurd (not-before v former steps e),
+)
+  where
+    not-now : (v : WalkVerdict) (short : Bool) → ((n q : ℕ) → v ≡ Walk.Refused n q → 9 ≤ n)
+        → ¬ (answered Outcome.Passed v short count ≡ Refused number p)
+    not-now (Walk.Refused n q) short steps e = let l = steps n q refl in let same : n ≡ number = cc in omega arith
+    not-now (Walk.Closed q) true steps e = let same : _≡_ {A = ℕ} 8 number = cc in omega arith
+    not-now (Walk.Closed q) false steps e = not-granted (sym e)
+
+    not-before : (v : WalkVerdict) (former : Bool) → ((n q : ℕ) → v ≡ Walk.Refused n q → 9 ≤ n)
+        → ¬ (formerly Outcome.Passed v former most ≡ Refused number p)
+    not-before v true steps e = let same : _≡_ {A = ℕ} 8 number = cc in omega arith
+    not-before (Walk.Refused n q) false steps e = let l = steps n q refl in let same : n ≡ number = cc in omega arith
+    not-before (Walk.Closed q) false steps e = not-granted (sym e)
+
+module _ (file : List ℕ) (room : ℕ) where
+  steps-from-9 : (n q : ℕ) → stepVerdict file ≡ Walk.Refused n q → 9 ≤ n
+  steps-from-9 n q e = step-number file n q e .0
+
+  -- 8 was the list's reason alone: 1 to 7 refuse by their numbers, now as then, and 8 is none of theirs now,
+  of-eight : (t : Tested) (v : WalkVerdict) (former : Bool) (p : ℕ) → to-7 file room ≡ t → stepVerdict file ≡ v
+      → formerly t v former (length (formerSigners file)) ≡ Refused 8 p
+      → (p ≡ 0) × (t ≡ Outcome.Passed) × (former ≡ true)
+  of-eight (Outcome.Refused number q) v former p e w is =
+      let now : recordAnswer file room ≡ Refused 8 p =
+      answer-is file room
+      ∙ ap (λ (t : Tested). answered t (stepVerdict file) (short file room) (length (signers file))) e
+      ∙ is in
+      let (_, keeps, _, _) = eight-exactly file room p .0 now in
+      absurd (not-passed (sym e ∙ passed-by-all (testsTo7 file) .1 (none-to-7 file .1 keeps)))
+  of-eight Outcome.Passed v true p e w is = (cc, refl, refl)
+  of-eight Outcome.Passed (Walk.Refused n q) false p e w is =
+      let l = steps-from-9 n q w in let same : n ≡ 8 = cc in absurd (omega arith)
+  of-eight Outcome.Passed (Walk.Closed q) false p e w is = absurd (not-granted (sym is))
+
+-- and a file that keeps the layout passes 1 to 7.
+pub former-eight : FormerEight
+former-eight file room p = (
+  λ e.
+      let (z, passed, is-short) = of-eight file room (to-7 file room) (stepVerdict file) (former-short file room) p refl
+      refl (sym (former-is file room) ∙ e) in
+      (z, none-to-7 file .0 (passed-by-all (testsTo7 file) .0 passed), ltb-true _ _ is-short),
+  λ (z, keeps, less).
+      let passes = passed-by-all (testsTo7 file) .1 (none-to-7 file .1 keeps) in
+      let most : ℕ = length (formerSigners file) in
+      former-is file room
+      ∙ ap (λ (t : Tested). formerly t (stepVerdict file) (former-short file room) most) passes
+      ∙ ap (λ (b : Bool). formerly Outcome.Passed (stepVerdict file) b most) (lt-ltb room most less)
+      ∙ ap (Refused 8) (sym z),
+)
+
 pub archive-kept : ArchiveKept
 archive-kept file room =
     let (had-papers, fewer) = signers-have-papers (table file) (statements file) (saysLeftNumbers file) in
@@ -172,6 +224,10 @@ archive-kept file room =
       short-list = λ now number p e f.
           was-short (to-7 file room) v (short file room) (former-short file room) count most now number p (sym is ∙ e)
           (sym was ∙ f);
+      same-to-seven = λ number p few.
+          let (to, from) = same-low (to-7 file room) v (short file room) (former-short file room) count most number p
+          (steps-from-9 file room) few in
+          (λ e. was ∙ to (sym is ∙ e), λ e. is ∙ from (sym was ∙ e));
       same-refusals = λ room-for number p.
           let long : short file room ≡ false = le-ltb room count (omega arith) in
           let was-long : former-short file room ≡ false = le-ltb room most room-for in

@@ -38,4 +38,4 @@ lists = refl
 pub former-samples : FormerSamples
 unfolding recordAnswer formerAnswer fileWords fileOf firstRefusal wrongEntry repeatedEntry first into principals
     used namedNumbers isNaming run walk step opens holds entries entry
-former-samples = (refl, refl, refl, refl)
+former-samples = (refl, refl, refl, refl, refl)

@@ -38,10 +38,11 @@ unfoldable pub formerAnswer : List ℕ → ℕ → RecordVerdict
 formerAnswer file room =
     unlessRefused Refused (firstRefusal (formerTests file room)) (Granted (length (formerSigners file)))
 
--- So a file that keeps the layout was refused by 8 for a short list, whatever its steps are.
+-- So exactly a file that keeps the layout was refused by 8 for a short list, whatever its steps are.
 abbrev pub FormerEight : Type 0
 FormerEight =
-    (file : List ℕ) (room : ℕ) → Keeps file → room < length (formerSigners file) → formerAnswer file room ≡ Refused 8 0
+    (file : List ℕ) (room p : ℕ)
+    → formerAnswer file room ≡ Refused 8 p ↔ ((p ≡ 0) × Keeps file × (room < length (formerSigners file)))
 
 -- What became of the answer for a file and a list of so many words.
 pub record Archived (file : List ℕ) (room : ℕ) : Type 0 where
@@ -59,7 +60,10 @@ pub record Archived (file : List ℕ) (room : ℕ) : Type 0 where
   pub short-list :
       (count number p : ℕ) → recordAnswer file room ≡ Granted count → formerAnswer file room ≡ Refused number p
       → (number ≡ 8) × (p ≡ 0)
-  -- with room for the principals of all papers the refusals agree in number and place.
+  -- refusals by 1 to 7 agree in number and place;
+  pub same-to-seven :
+      (number p : ℕ) → number ≤ 7 → recordAnswer file room ≡ Refused number p ↔ formerAnswer file room ≡ Refused number p
+  -- and with room for the principals of all papers all refusals do.
   pub same-refusals :
       length (formerSigners file) ≤ room
       → (number p : ℕ) → recordAnswer file room ≡ Refused number p ↔ formerAnswer file room ≡ Refused number p
@@ -67,13 +71,16 @@ pub record Archived (file : List ℕ) (room : ℕ) : Type 0 where
 abbrev pub ArchiveKept : Type 0
 ArchiveKept = (file : List ℕ) (room : ℕ) → Archived file room
 
--- Over table T, with papers of 7 and 8 and A's goal. A's steps open the paper of 7 alone: room for both, for one, and
--- for none. A wrong step: room for both, and for one, where 8 stood before it.
+-- Over table T, with papers of 7 and 8, 7's twice, an order, and A's goal. A's steps open the paper of 7 alone: room for
+-- both, for one, and for none. A wrong step: room for both, and for one, where 8 stood before it. And a statement
+-- without an entry.
 abbrev pub FormerSamples : Type 0
 FormerSamples =
-    let a : List ℕ = fileOf (overT (1 ∷ 2 ∷ []) 1 (40960 ∷ 45057 ∷ 4096 ∷ 0 ∷ [])) in
-    let wrong : List ℕ = fileOf (overT (1 ∷ 2 ∷ []) 1 (40960 ∷ 45058 ∷ [])) in
+    let a : List ℕ = fileOf (overT (1 ∷ 2 ∷ 1 ∷ 0 ∷ []) 1 (40960 ∷ 45057 ∷ 4096 ∷ 0 ∷ [])) in
+    let wrong : List ℕ = fileOf (overT (1 ∷ 2 ∷ 1 ∷ 0 ∷ []) 1 (40960 ∷ 45058 ∷ [])) in
+    let outside : List ℕ = fileOf (overT (1 ∷ 3 ∷ []) 1 (40960 ∷ 45058 ∷ [])) in
     (map (formerAnswer a) (2 ∷ 1 ∷ 0 ∷ []) ≡ Granted 2 ∷ Refused 8 0 ∷ Refused 8 0 ∷ [])
     × (map (recordAnswer a) (2 ∷ 1 ∷ 0 ∷ []) ≡ Granted 1 ∷ Granted 1 ∷ Refused 8 0 ∷ [])
     × (map (formerAnswer wrong) (2 ∷ 1 ∷ []) ≡ Refused 14 1 ∷ Refused 8 0 ∷ [])
     × (map (recordAnswer wrong) (2 ∷ 1 ∷ []) ≡ Refused 14 1 ∷ Refused 14 1 ∷ [])
+    × (formerAnswer outside 0 ≡ Refused 7 1)

@@ -1,4 +1,4 @@
-// The check of a record, the entry point: every test of 01, in its order.
+// The check of a record, the entry point: every test, in the checking order.
 ghost use Prim.Native.Nat.{_*_, _≤_};
 ghost use mathlib.Core.Path.{_≡_};
 ghost use lib.ListN.{length};

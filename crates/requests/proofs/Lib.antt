@@ -1,6 +1,6 @@
 -- The theorems whose statements are in specs/.
 pub mod Order
 pub mod Sentences
-pub mod Carried
+pub mod WhoCarried
 pub mod Samples
 pub mod Requests

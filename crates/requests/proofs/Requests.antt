@@ -9,8 +9,8 @@ use Rattle.sentences.proofs.Samples.{text-of-a, other-numbers, text-of-every-ru
 use Rattle.requests.specs.Requests.{Requests}
 use Rattle.requests.proofs.Order.{signers-rise, release-grants, order-not-free, one-possible-line, count-stays}
 use Rattle.requests.proofs.Sentences.{release-written, else-refused}
-use Rattle.requests.proofs.Carried.{eight-counts, eight-stands}
-use Rattle.requests.proofs.Samples.{in-order, carried}
+use Rattle.requests.proofs.WhoCarried.{eight-counts, eight-of-sentences, eight-stands}
+use Rattle.requests.proofs.Samples.{in-order, only-who-carried}
 
 pub requests : Requests
 requests = record {
@@ -35,8 +35,9 @@ requests = record {
   answers = answers;
   lent-after = lent-after;
   signers-carry = signers-carry;
-  carried = carried;
+  only-who-carried = only-who-carried;
   eight-counts = eight-counts;
+  eight-of-sentences = eight-of-sentences;
   eight-stands = eight-stands;
   archive-kept = archive-kept;
   former-signers-spelled = former-signers-spelled;

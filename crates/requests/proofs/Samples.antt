@@ -16,14 +16,14 @@ use Rattle.signers.specs.Signers.{principals, used}
 use Rattle.record.specs.Answer.{recordAnswer}
 use Rattle.line.specs.RefusedLine.{refusedLine}
 use Rattle.line.specs.RecordLine.{listed, recordLine}
-use Rattle.requests.specs.Samples.{InOrder, Carried}
+use Rattle.requests.specs.Samples.{InOrder, OnlyWhoCarried}
 
 pub in-order : InOrder
 unfolding listed recordLine refusedLine ascii decimal digits recordAnswer fileWords fileOf firstRefusal wrongEntry
     repeatedEntry first into principals used namedNumbers isNaming run walk step opens holds entries entry
 in-order = refl
 
-pub carried : Carried
+pub only-who-carried : OnlyWhoCarried
 unfolding listed recordLine refusedLine ascii decimal digits recordAnswer fileWords fileOf firstRefusal wrongEntry
     repeatedEntry first into principals used namedNumbers isNaming run walk step opens holds entries entry
-carried = refl
+only-who-carried = refl

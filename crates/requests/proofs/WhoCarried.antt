@@ -1,12 +1,24 @@
--- Job 3 (specs/Carried.antt). Assumes nothing.
+-- Job 3 (specs/WhoCarried.antt). Assumes nothing.
 use Prim.Native.Nat.{ℕ, _<_}
-use mathlib.Core.Path.{refl, sym, subst, _∙_}
+use native.Mathlib.Omega.{arith}
+use mathlib.Core.Bool.{Bool, true, false}
+use mathlib.Core.Path.{_≡_, refl, sym, subst, _∙_}
+use mathlib.Core.Logic.{_↔_}
 use mathlib.Core.List.{List}
 use lib.ListN.{length}
+use lib.Dec.{ltb}
+use Rattle.basics.specs.Choice.{pick}
+use Rattle.record.specs.declared.verdict.RecordVerdict.{RecordVerdict}
+use Rattle.record.specs.declared.verdict.RecordVerdict.the-variants.{Granted, Refused}
 use Rattle.record.specs.Layout.{signers}
+use Rattle.record.specs.Answer.{recordAnswer}
+use Rattle.record.proofs.Answered.{not-granted}
 use Rattle.record.proofs.Eight.{eight-exactly}
+use Rattle.sentences.specs.declared.verdict.SentencesVerdict.the-variants as Sentences
+use Rattle.sentences.specs.Answer.{recordText, afterRecord}
+use Rattle.sentences.proofs.Answer.{not-written, answer-after-record}
 use Rattle.demands.proofs.Release.{has-signers, are-signers}
-use Rattle.requests.specs.Carried.{EightCounts, EightStands}
+use Rattle.requests.specs.WhoCarried.{EightCounts, EightOfSentences, EightStands}
 
 pub eight-counts : EightCounts
 eight-counts file before answer is p =
@@ -27,6 +39,28 @@ eight-counts file before answer is p =
           is ∙ from
           (z, s .keeps, s .is-proof, subst (λ (l : List ℕ). length before < length l) same (s .short)),
     )
+
+-- What follows a record's answer is 8 exactly where that is: a grant leads to 16 or to the text.
+after-record : (file : List ℕ) (bytes p : ℕ) (v : RecordVerdict)
+    → afterRecord file bytes v ≡ Sentences.Refused 8 p ↔ v ≡ Refused 8 p
+after-record file bytes p (Refused number q) = (λ e. cc, λ e. cc)
+after-record file bytes p (Granted count) = (
+  λ e. absurd (by (ltb bytes (length (recordText file))) e),
+  λ e. absurd (not-granted (sym e)),
+)
+  where
+    by : (short : Bool)
+        → ¬ (pick short (Sentences.Refused 16 0) (Sentences.Written count (length (recordText file)))
+        ≡ Sentences.Refused 8 p)
+    by true e = let same : _≡_ {A = ℕ} 16 8 = cc in omega arith
+    by false e = not-written (sym e)
+
+pub eight-of-sentences : EightOfSentences
+eight-of-sentences file list text answer is p =
+    let (to, from) = after-record file (length text) p (recordAnswer file (length list)) in
+    let (too-short, eight) = eight-counts file list (recordAnswer file (length list)) refl p in
+    let after = answer-after-record file (length list) (length text) in
+    (λ e. too-short (to (sym after ∙ sym is ∙ e)), λ s. is ∙ after ∙ from (eight s))
 
 pub eight-stands : EightStands
 eight-stands = refl

@@ -1,6 +1,6 @@
 -- Document 02 on one page: what each request asks for, and that it holds; samples, and what a request leaves as it was.
 pub mod Order
 pub mod Sentences
-pub mod Carried
+pub mod WhoCarried
 pub mod Samples
 pub mod Requests

@@ -9,8 +9,8 @@ use Rattle.sentences.specs.Feeds.{FeedPerLine}
 use Rattle.sentences.specs.Samples.{TextOfA, OtherNumbers, TextOfEveryRule, Answers, LentAfter}
 use Rattle.requests.specs.Order.{SignersRise, ReleaseGrants, OrderNotFree, OnePossibleLine, CountStays}
 use Rattle.requests.specs.Sentences.{ReleaseWritten, ElseRefused}
-use Rattle.requests.specs.Carried.{EightCounts, EightStands}
-use Rattle.requests.specs.Samples.{InOrder, Carried}
+use Rattle.requests.specs.WhoCarried.{EightCounts, EightOfSentences, EightStands}
+use Rattle.requests.specs.Samples.{InOrder, OnlyWhoCarried}
 
 pub record Requests : Type 0 where
   -- Job 1. "Signers shall stand in rising principal number."
@@ -47,9 +47,10 @@ pub record Requests : Type 0 where
   -- Job 3. "A paper that lay unused makes no signer. A signer is now a principal K with a statement K says A that some
   -- says-left step names": over the derivation that the words are, and samples.
   pub signers-carry : SignersCarry
-  pub carried : Carried
+  pub only-who-carried : OnlyWhoCarried
   -- "Refusal 8 counts these and is tested after 15 and before 16."
   pub eight-counts : EightCounts
+  pub eight-of-sentences : EightOfSentences
   pub eight-stands : EightStands
   -- "Records in the archive keep their granted or refused, save that a short list may now suffice": against the answer
   -- that 01 gave.

@@ -8,12 +8,13 @@ use Rattle.text.specs.Ascii.{ascii}
 use Rattle.record.specs.Samples.{overT, forBoth, bothOpened}
 use Rattle.demands.specs.Samples.{Sample, a-record, _prints_, lineOf}
 
--- 1 and 2 of table T as an order, 3, and A's goal: and left, and then the word of 7 that it adds
-abbrev pub fromBoth : List ℕ → List ℕ
-fromBoth statements =
-    4 ∷ length statements ∷ 5 ∷ 1
-    ∷ 0 ∷ 20487 ∷ 20488 ∷ 12289
-    ∷ 0 ∷ 0 ∷ 0 ∷ 2
+-- 1 and 2 of table T as an order, 3; 4 is principal 7 says 1; and A's goal: and left, and then the word of 7 that it
+-- adds
+abbrev pub fromOrder : List ℕ → List ℕ
+fromOrder statements =
+    5 ∷ length statements ∷ 5 ∷ 1
+    ∷ 0 ∷ 20487 ∷ 20488 ∷ 12289 ∷ 20487
+    ∷ 0 ∷ 0 ∷ 0 ∷ 2 ∷ 1
     ∷ statements ++ (40960 ∷ 24579 ∷ 45057 ∷ 4096 ∷ 0 ∷ [])
 
 -- Job 1: papers of principals 8 and then 7, both opened; of 4,095, 10, 9 and 0, for what all four say; of 8, with 7's
@@ -43,14 +44,16 @@ abbrev pub InOrder : Type 0
 InOrder = Print inOrder
 
 -- Job 3. With A's steps: beside the paper of 7, which they open, one of 8 lies unused. With B's steps: the paper of 7
--- lies unused, though 7 affirms. Then 3 is 1 and 2, an order: and left adds 7's word, and says left opens it; with no
--- paper nobody signs, and with a paper of 7 he does. And two papers of 7, of which the second is opened.
-abbrev pub carried : List Sample
-carried =
+-- lies unused, though 7 affirms. From an order: and left adds 7's word, and says left opens it; with no paper nobody
+-- signs, with that word as a paper of 7 he does, and with another paper of his, unused, he doesn't. And two papers of
+-- 7, of which the second is opened.
+abbrev pub onlyWhoCarried : List Sample
+onlyWhoCarried =
     a-record (overT (2 ∷ 1 ∷ []) 1 (40960 ∷ 45057 ∷ 4096 ∷ 0 ∷ [])) prints "granted 1 7\n"
     ∷ a-record (overT (1 ∷ 0 ∷ []) 1 (40960 ∷ 4096 ∷ 0 ∷ [])) prints "granted 0\n"
-    ∷ a-record (fromBoth (3 ∷ [])) prints "granted 0\n"
-    ∷ a-record (fromBoth (3 ∷ 1 ∷ [])) prints "granted 1 7\n"
+    ∷ a-record (fromOrder (3 ∷ [])) prints "granted 0\n"
+    ∷ a-record (fromOrder (3 ∷ 1 ∷ [])) prints "granted 1 7\n"
+    ∷ a-record (fromOrder (3 ∷ 4 ∷ [])) prints "granted 0\n"
     ∷ a-record
     (4 ∷ 2 ∷ 4 ∷ 2
     ∷ 0 ∷ 1 ∷ 20487 ∷ 20487
@@ -60,5 +63,5 @@ carried =
     prints "granted 1 7\n"
     ∷ []
 
-abbrev pub Carried : Type 0
-Carried = Print carried
+abbrev pub OnlyWhoCarried : Type 0
+OnlyWhoCarried = Print onlyWhoCarried

@@ -1,6 +1,6 @@
 -- "The mill's rule has changed: a paper that lay unused makes no signer. A signer is now a principal K with a statement
 -- K says A that some says-left step names. Refusal 8 counts these and is tested after 15 and before 16." (02, job 3)
--- Proved in proofs/Carried.antt. Assumes nothing.
+-- Proved in proofs/WhoCarried.antt. Assumes nothing.
 use Prim.Native.Nat.{ℕ, _<_}
 use mathlib.Core.Path.{_≡_}
 use mathlib.Core.Logic.{_↔_}
@@ -10,6 +10,9 @@ use Rattle.record.specs.declared.verdict.RecordVerdict.{RecordVerdict}
 use Rattle.record.specs.declared.verdict.RecordVerdict.the-variants.{Refused}
 use Rattle.record.specs.Answer.{recordAnswer}
 use Rattle.record.specs.Proof.{Keeps, IsProof}
+use Rattle.sentences.specs.declared.verdict.SentencesVerdict.{SentencesVerdict}
+use Rattle.sentences.specs.declared.verdict.SentencesVerdict.the-variants as Sentences
+use Rattle.sentences.specs.Answer.{sentencesAnswer}
 use Rattle.sentences.specs.Promises.{sentencesOrder}
 use Rattle.demands.specs.Release.{Signers}
 
@@ -26,6 +29,13 @@ abbrev pub EightCounts : Type 0
 EightCounts =
     (file before : List ℕ) (answer : RecordVerdict) → answer ≡ recordAnswer file (length before)
     → (p : ℕ) → answer ≡ Refused 8 p ↔ ((p ≡ 0) × ListTooShort file (length before))
+
+-- and so does a call for the text, before 16,
+abbrev pub EightOfSentences : Type 0
+EightOfSentences =
+    (file list text : List ℕ) (answer : SentencesVerdict)
+    → answer ≡ sentencesAnswer file (length list) (length text)
+    → (p : ℕ) → answer ≡ Sentences.Refused 8 p ↔ ((p ≡ 0) × ListTooShort file (length list))
 
 -- "and is tested after 15 and before 16"
 abbrev pub EightStands : Type 0

@@ -19,7 +19,7 @@ use Rattle.sentences.specs.Formula.{propositionText, goalText}
 use Rattle.sentences.specs.Sentences.{ruleName, namedText, lineText}
 use Rattle.formula_write.specs.Length.{capped, lengthOf, Holds}
 use Rattle.steps.specs.Naming.{isNaming}
-use Rattle.sentences_write.specs.Naming.{namedAt}
+use Rattle.sentences_write.specs.NamedAt.{namedAt}
 use Rattle.formula_write.proofs.Lengths.{length-after}
 use Rattle.sentences_write.proofs.Named.{named-text}
 

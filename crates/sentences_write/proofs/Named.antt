@@ -21,7 +21,7 @@ use Rattle.rules.proofs.Tests.{NoneBelow, past}
 use Rattle.goals.specs.Kept.{lineAt}
 use Rattle.sentences.specs.Formula.{propositionText, goalText}
 use Rattle.sentences.specs.Sentences.{ruleName, namedText, lineText}
-use Rattle.sentences_write.specs.Naming.{namedAt}
+use Rattle.sentences_write.specs.NamedAt.{namedAt}
 use Rattle.formula_write.proofs.Filled.{Filled, filled-as, filled-none}
 
 -- Whether a code's rule names a formula, where the code is known, and from 12 on.

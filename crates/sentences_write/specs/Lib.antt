@@ -1,3 +1,3 @@
 -- What the code of the crate speaks of besides the text itself, for private functions.
-pub mod Naming
+pub mod NamedAt
 pub mod Arrays

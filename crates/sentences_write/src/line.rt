@@ -9,7 +9,7 @@ ghost use Rattle.goals.specs.Kept.{lineAt};
 ghost use Rattle.sentences.specs.Formula.{goalText};
 ghost use Rattle.sentences.specs.Sentences.{lineText};
 ghost use Rattle.steps.specs.Naming.{isNaming};
-ghost use Rattle.sentences_write.specs.Naming.{namedAt};
+ghost use Rattle.sentences_write.specs.NamedAt.{namedAt};
 use crate::name::fill_name;
 use basics::word::lower;
 use basics::word::upper;

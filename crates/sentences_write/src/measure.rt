@@ -12,7 +12,7 @@ ghost use Rattle.goals.specs.Kept.{lineAt, linesAt};
 ghost use Rattle.sentences.specs.Formula.{goalText};
 ghost use Rattle.sentences.specs.Sentences.{lineText, sentencesFrom};
 ghost use Rattle.formula_write.specs.Length.{capped, lengthsOf, Holds};
-ghost use Rattle.sentences_write.specs.Naming.{namedAt};
+ghost use Rattle.sentences_write.specs.NamedAt.{namedAt};
 use crate::line::is_naming;
 use crate::name::name_length;
 use basics::limits::MOST_FORMULAS;

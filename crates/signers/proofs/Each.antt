@@ -90,7 +90,7 @@ principals-last es ns n =
 -- ---- who signs
 
 -- A signer has a paper among the statements that are named.
-pub signs-is : (es : List Entry) (ns named : List ℕ) (K : ℕ) → HasPaper es (used named ns) K ↔ Signs es ns named K
+signs-is : (es : List Entry) (ns named : List ℕ) (K : ℕ) → HasPaper es (used named ns) K ↔ Signs es ns named K
 signs-is es ns named K = (
   λ s.
       let (stands, among) = used-from named ns (s .statement) (s .stands) in

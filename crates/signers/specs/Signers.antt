@@ -26,7 +26,7 @@ unfoldable pub principals : List Entry → List ℕ → List ℕ
 principals es [] = []
 principals es (n ∷ ns) = joined (principals es ns) (entryAt es n)
 
--- those of the statements that are among the formulas named
+-- the statements among the formulas named
 unfoldable pub used : List ℕ → List ℕ → List ℕ
 used named [] = []
 used named (n ∷ ns) = pick (holds named n) (n ∷ used named ns) (used named ns)

@@ -41,10 +41,10 @@ module _ (flags : List Bool) (ws : List ℕ) (i : ℕ) where
   abbrev before : ℕ → List Bool
   before j = setAll flags (namedNumbers isSaysLeft (take j ws))
 
-  pub marks-next : {now next : List Bool} → now ≡ before i → i < length ws
+  pub flags-next : {now next : List Bool} → now ≡ before i → i < length ws
       → next ≡ setAll now (pick (isSaysLeft (upper (getD ws i 0))) (named (getD ws i 0)) [])
       → next ≡ before (i + 1)
-  marks-next h l is =
+  flags-next h l is =
       let w : ℕ = getD ws i 0 in
       is
       ∙ ap (λ (l : List Bool). setAll l (pick (isSaysLeft (upper w)) (named w) [])) h
@@ -53,13 +53,13 @@ module _ (flags : List Bool) (ws : List ℕ) (i : ℕ) where
       ∙ ap (λ (l : List ℕ). setAll flags (namedNumbers isSaysLeft l)) (sym (take-suc ws i 0 l))
       ∙ ap before (sym (add-one i))
 
-  pub marks-all : {now : List Bool} → now ≡ before i → length ws ≤ i → now ≡ setAll flags (namedNumbers isSaysLeft ws)
-  marks-all h l = h ∙ ap (λ (l : List ℕ). setAll flags (namedNumbers isSaysLeft l)) (take-all i ws l)
+  pub flags-all : {now : List Bool} → now ≡ before i → length ws ≤ i → now ≡ setAll flags (namedNumbers isSaysLeft ws)
+  flags-all h l = h ∙ ap (λ (l : List ℕ). setAll flags (namedNumbers isSaysLeft l)) (take-all i ws l)
 
 -- With no word none is set.
-pub marks-none : (flags : List Bool) → flags ≡ setAll flags (namedNumbers isSaysLeft [])
+pub flags-none : (flags : List Bool) → flags ≡ setAll flags (namedNumbers isSaysLeft [])
 unfolding namedNumbers
-marks-none flags = sym (set-all-none flags)
+flags-none flags = sym (set-all-none flags)
 
 -- ---- the signers by flags
 

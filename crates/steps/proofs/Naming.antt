@@ -7,12 +7,12 @@ use mathlib.Core.Path.{_≡_, refl, sym, ap, _∙_}
 use mathlib.Core.Logic.{_⊎_, inl, inr, ⊎-elim}
 use mathlib.Core.Option.{some, none}
 use mathlib.Core.List.{List, [], _∷_, _++_, List·Memᴰ·head, List·Memᴰ·tail, List·Memᴰ·cases-cons, List·Memᴰ·not-nil, List·Memᴰ·append-cases, List·Memᴰ·eq-of-singleton, Memᴰ·append-left, Memᴰ·append-right, Memᴰ·cast, Memᴰ·map, Memᴰ·of-map, append-nil, append-assoc}
-use lib.ListN.{length, getD, getElem?, List·getD-map}
+use lib.ListN.{length, getD, List·getD-map}
 use Rattle.basics.specs.Choice.{pick}
 use Rattle.basics.specs.Membership.{_∈_}
 use Rattle.basics.specs.Limits.{mostFormulas}
 use Rattle.basics.specs.Word.{upper, lower}
-use Rattle.basics.proofs.Membership.{first, member-at}
+use Rattle.basics.proofs.Membership.{first, member-at, place-of, at-place, word-place}
 use Rattle.logic.specs.Proposition.{Proposition, _says_}
 use Rattle.logic.specs.Judgment.{Judgment}
 use Rattle.logic.specs.Principals.{Relation}
@@ -107,20 +107,6 @@ module _ (picks : ℕ → Bool) where
       ∙ sym (append-assoc (by-word a) (namedNumbers picks ws) (by-word w))
 
 -- ---- on a trace
-
--- Where a member stands.
-place-of : {A : Type 0} {a : A} {l : List A} → a ∈ l → (i : ℕ) × (i < length l) × (getElem? l i ≡ some a)
-place-of (List·Memᴰ·head e) = (0, omega arith, ap some (sym e))
-place-of (List·Memᴰ·tail m) = let (i, l, e) = place-of m in (suc i, omega arith, e)
-
-at-place : {A : Type 0} {a : A} (l : List A) (i : ℕ) → getElem? l i ≡ some a → a ∈ l
-at-place [] i e = absurd (true≢false cc)
-at-place {a = a} (b ∷ l) zero e = List·Memᴰ·head (let same : a ≡ b = cc in same)
-at-place (b ∷ l) (suc i) e = List·Memᴰ·tail (at-place l i e)
-
-word-place : {w : ℕ} {ws : List ℕ} → w ∈ ws → (i : ℕ) × (i < length ws) × (getD ws i 0 ≡ w)
-word-place (List·Memᴰ·head e) = (0, omega arith, sym e)
-word-place (List·Memᴰ·tail m) = let (i, l, e) = word-place m in (suc i, omega arith, e)
 
 -- what a rule names by a number, where it names a formula
 spelled-by : (b : Bool) (B A : Proposition) → pick b (some B) none ≡ some A → (b ≡ true) × (B ≡ A)

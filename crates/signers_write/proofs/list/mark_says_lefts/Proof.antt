@@ -8,7 +8,7 @@ use borrow.Author.Needs.{needs}
 use Rattle.marks.specs.Flagged.{setAll}
 use Rattle.marks.proofs.Flagged.{set-all-length}
 use Rattle.steps.specs.Naming.{namedNumbers, isSaysLeft}
-use Rattle.signers_write.proofs.Marking.{marks-none, marks-next, marks-all}
+use Rattle.signers_write.proofs.Marking.{flags-none, flags-next, flags-all}
 use Rattle.signers_write.proofs.list.mark_says_lefts.Statement.{statement}
 use Rattle.signers_write.proofs.list.mark_says_lefts.Tie as tie
 
@@ -20,7 +20,7 @@ abbrev μ-loop : tie.MeasureT-loop
 μ-loop flags₀ steps i₀ flags i = length steps - i
 
 loop-holds : tie.Need-loop-holds Inv-loop μ-loop
-loop-holds c = (omega arith, marks-none _)
+loop-holds c = (omega arith, flags-none _)
 
 loop-again : tie.Need-loop-again Inv-loop μ-loop
 loop-again c =
@@ -28,7 +28,7 @@ loop-again c =
     let l = m .before .before .before .before in
     let a = l .before .before .before .args in (
       omega arith,
-      marks-next (a .flags .now) (a .steps .now) (l .loop .i) (l .loop .inv .1) (omega arith) (m .mark-word .ensures),
+      flags-next (a .flags .now) (a .steps .now) (l .loop .i) (l .loop .inv .1) (omega arith) (m .mark-word .ensures),
     )
 
 same-length : tie.Need-same-length Inv-loop μ-loop
@@ -38,7 +38,7 @@ returns : tie.Need-returns Inv-loop μ-loop
 returns c =
     let l = c .before .loop in
     let a = c .before .before .before .before .args in
-    marks-all (a .flags .now) (a .steps .now) (l .i) (l .inv .1) (omega arith)
+    flags-all (a .flags .now) (a .steps .now) (l .i) (l .inv .1) (omega arith)
 
 pub mark-says-lefts-spec : {M : Type 1} → statement M
 mark-says-lefts-spec =
