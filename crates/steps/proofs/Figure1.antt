@@ -12,7 +12,7 @@ use Rattle.table.specs.Tests.{entries, tableTests}
 use Rattle.table.proofs.Entries.{length-entries-equal}
 use Rattle.table.proofs.Passed.{passed-is-good}
 use Rattle.steps.specs.Runs.{Decides}
-use Rattle.steps.specs.Figure1.{same, ClosedUsesAll, HypothesesAreASet, RefusedInRange, RefusedWhere, RunsAreDerivations, TraceIsDerivations, LinePerWord, LinesByWord, NamedOnTrace}
+use Rattle.steps.specs.Figure1.{same, ClosedUsesAll, HypothesesAreASet, RefusedInRange, RefusedWhere, RunsAreDerivations, TraceIsDerivations, LinePerWord, LinesByWord, PremisesCounted, PremisesOfDerivation, NamedOnTrace}
 use Rattle.steps.proofs.Has as Table
 use Rattle.steps.proofs.Closed as Closed
 use Rattle.steps.proofs.Alike as Alike
@@ -20,6 +20,7 @@ use Rattle.steps.proofs.Stops as Stops
 use Rattle.steps.proofs.Runs as Any
 use Rattle.steps.proofs.Trace as AnyTrace
 use Rattle.steps.proofs.ByWord as ByWord
+use Rattle.steps.proofs.PremiseCounts as AnyCounts
 use Rattle.steps.proofs.Naming as Naming
 
 -- "the same K" is equality.
@@ -62,6 +63,12 @@ line-per-word = AnyTrace.line-per-word same mostDepth
 
 pub lines-by-word : LinesByWord
 lines-by-word = ByWord.lines-by-word same mostDepth
+
+pub premises-counted : PremisesCounted
+premises-counted = AnyCounts.premises-counted same
+
+pub premises-of-derivation : PremisesOfDerivation
+premises-of-derivation = AnyCounts.premises-of-derivation Same
 
 pub named-on-trace : NamedOnTrace
 named-on-trace picks = Naming.named-on-trace same picks mostDepth

@@ -21,6 +21,7 @@ pub mod Taken
 pub mod Complete
 pub mod Runs
 pub mod Trace
+pub mod PremiseCounts
 pub mod ByWord
 pub mod Naming
 pub mod Figure1

@@ -28,6 +28,7 @@ use Rattle.steps.specs.Carried as AnyCarried
 use Rattle.steps.specs.Carried.{InTable}
 use Rattle.steps.specs.Trace as AnyTrace
 use Rattle.steps.specs.Trace.{Line, lineOf}
+use Rattle.steps.specs.PremiseCounts as AnyCounts
 use Rattle.steps.specs.Naming.{namedNumbers, Names}
 
 -- "the same K"
@@ -106,6 +107,14 @@ LinesByWord =
     → (i : ℕ) → i < length ws
     → (o : Obligation) × (rest : List Obligation) × LeftToProve es (take i ws) os (o ∷ rest)
     × (getElem? (trace es ws os) i ≡ some (lineOf same es (getD ws i 0) o))
+
+-- A step opens as many premises as the row of its code has,
+abbrev pub PremisesCounted : Type 0
+PremisesCounted = AnyCounts.PremisesCounted same
+
+-- and a derivation has as many immediate subderivations.
+abbrev pub PremisesOfDerivation : Type 0
+PremisesOfDerivation = AnyCounts.PremisesOfDerivation Same
 
 -- The lines name what the words' numbers spell.
 abbrev pub NamedOnTrace : Type 0

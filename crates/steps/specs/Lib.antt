@@ -16,6 +16,7 @@ pub mod Words
 pub mod Carried
 pub mod Runs
 pub mod Trace
+pub mod PremiseCounts
 pub mod ByWord
 pub mod Naming
 pub mod Figure1
