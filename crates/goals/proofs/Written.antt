@@ -15,15 +15,23 @@ use Rattle.basics.proofs.Written.{written-none, written-length, written-store}
 use Rattle.table.specs.declared.entry.Entry.{Entry}
 use Rattle.steps.specs.declared.opened.Opened as O
 use Rattle.steps.specs.declared.opened.Opened.the-variants as Opening
+use Rattle.steps.specs.declared.opened.Premise.{Premise}
 use Rattle.steps.specs.declared.goal.Goal.{Goal}
 use Rattle.steps.specs.Step.{rules, unknown}
 use Rattle.steps.specs.Run.{after}
+use Rattle.steps.specs.PremiseCounts.{premiseCounts}
 use Rattle.steps.specs.Figure1.{same}
+use Rattle.steps.proofs.Cases.{OfPremises}
+use Rattle.steps.proofs.PremiseCounts.{Counted}
+use Rattle.premises.specs.declared.premises.Premises.{Premises}
+use Rattle.premises.specs.Premises.{opened, firstOf, lastOf}
 use Rattle.rules.specs.Tested.{tested}
+use Rattle.premises.proofs.Counts.{Taken, none-opened, one-opened, two-opened}
+use Rattle.rules.proofs.TestedCounts.{tested-counts}
 use Rattle.goals.specs.declared.kept.Kept.{Kept}
 use Rattle.goals.specs.Kept.{goalAt}
-use Rattle.goals.specs.Goals.{kept, goalKept, premisesKept, opensFreely, goalsFrom, goalsOf, numbersOf, affirmsOf}
-use Rattle.goals.specs.Next.{isRefused, countOf, firstKept, lastKept}
+use Rattle.goals.specs.Goals.{kept, goalKept, keptAs, premisesKept, opensFreely, goalsFrom, goalsOf, numbersOf, affirmsOf}
+use Rattle.goals.specs.Next.{isRefused}
 use Rattle.goals.proofs.Stack.{waiting, waiting-length, pushed, popped}
 
 -- ---- what is written
@@ -84,6 +92,12 @@ module _ {all : List Kept} {numbers₀ affirms₀ numbers affirms : List ℕ} {i
 
 -- ---- a turn
 
+not-refused : (x : O.Opened) → isRefused x ≡ false → Taken x
+not-refused (Opening.Refused number) e = absurd (true≢false e)
+not-refused Opening.Closed e = tt
+not-refused (Opening.One a) e = tt
+not-refused (Opening.Two a b) e = tt
+
 module _ (es : List Entry) where
   -- the goals from the next step on, after a step that opens x for a goal that is kept by n
   abbrev pub onward : O.Opened → ℕ → List ℕ → List Kept → List Kept
@@ -107,7 +121,7 @@ module _ (es : List Entry) where
   unfolding goalsFrom
   turn steps i k ks l few is = rw (drop-cons steps i 0 l, le-leb (length ks) mostDepth few, is, add-one i)
 
-  -- What it opens, by what the code asks of it.
+  -- What it opens, by what is asked of it: whether it is refused, and how many premises its code has.
   module _ (n : ℕ) (ws : List ℕ) (ks : List Kept) where
     pub on-refused : (x : O.Opened) → isRefused x ≡ true → onward x n ws ks ≡ []
     on-refused (Opening.Refused number) e = refl
@@ -115,28 +129,26 @@ module _ (es : List Entry) where
     on-refused (Opening.One a) e = absurd (false≢true e)
     on-refused (Opening.Two a b) e = absurd (false≢true e)
 
-    pub on-closed : (x : O.Opened) → isRefused x ≡ false → countOf x ≡ 0 → onward x n ws ks ≡ goalsFrom es ws ks
-    on-closed (Opening.Refused number) e c = absurd (true≢false e)
-    on-closed Opening.Closed e c = refl
-    on-closed (Opening.One a) e c = absurd (omega arith)
-    on-closed (Opening.Two a b) e c = absurd (omega arith)
+    module _ (code : ℕ) (g : Goal) (x : O.Opened) (counts : OfPremises (Counted code) x) (e : isRefused x ≡ false)
+        {c : ℕ} (c-is : c ≡ getD premiseCounts code 0) where
+      pub on-closed : c ≡ 0 → onward x n ws ks ≡ goalsFrom es ws ks
+      on-closed none = ap (λ y. onward y n ws ks) (none-opened code x counts (not-refused x e) (sym c-is ∙ none))
 
-    pub on-two : (x : O.Opened) → countOf x ≡ 2 → onward x n ws ks ≡ goalsFrom es ws (firstKept n x ∷ lastKept n x ∷ ks)
-    on-two (Opening.Refused number) c = absurd (omega arith)
-    on-two Opening.Closed c = absurd (omega arith)
-    on-two (Opening.One a) c = absurd (omega arith)
-    on-two (Opening.Two a b) c = refl
+      pub on-one : c ≡ 1 → onward x n ws ks ≡ goalsFrom es ws (keptAs n (firstOf g x .goal) ∷ ks)
+      on-one one =
+          let is = one-opened code g x counts (not-refused x e) (sym c-is ∙ one) in
+          ap (λ y. onward y n ws ks) is ∙ ap (λ y. goalsFrom es ws (keptAs n (firstOf g y .goal) ∷ ks)) (sym is)
 
-    pub on-one : (x : O.Opened) → ¬ (countOf x ≡ 0) → ¬ (countOf x ≡ 2)
-        → onward x n ws ks ≡ goalsFrom es ws (firstKept n x ∷ ks)
-    on-one (Opening.Refused number) z t = absurd (z refl)
-    on-one Opening.Closed z t = absurd (z refl)
-    on-one (Opening.One a) z t = refl
-    on-one (Opening.Two a b) z t = absurd (t refl)
+      pub on-two : 1 < c
+          → onward x n ws ks ≡ goalsFrom es ws (keptAs n (firstOf g x .goal) ∷ keptAs n (lastOf g x .goal) ∷ ks)
+      on-two two =
+          ap (λ y. onward y n ws ks)
+          (two-opened code g x counts (not-refused x e) (λ none. omega (arith, c-is)) (λ one. omega (arith, c-is)))
 
-    -- Two premises where as many wait as may.
-    pub on-full : (x : O.Opened) → countOf x ≡ 2 → length ks ≡ mostDepth → onward x n ws ks ≡ []
-    on-full x c full = on-two x c ∙ too-many ws (firstKept n x) (lastKept n x ∷ ks) (omega arith)
+      -- Two premises where as many wait as may.
+      pub on-full : 1 < c → length ks ≡ mostDepth → onward x n ws ks ≡ []
+      on-full two full =
+          on-two two ∙ too-many ws (keptAs n (firstOf g x .goal)) (keptAs n (lastOf g x .goal) ∷ ks) (omega arith)
 
 -- ---- a turn of the code
 
@@ -153,10 +165,10 @@ pub record Reached
       Done (goalsOf es steps goal) numbers₀ affirms₀ numbers affirms i
       (goalsFrom es (drop i steps) (kept number affirm ∷ waiting ns bs count))
 
--- That of step i is written too, and the step opens x.
+-- That of step i is written too, and the rule of its code leaves these premises for the goal g, as many as its row has.
 pub record Turned
     (es : List Entry) (steps : List ℕ) (goal : ℕ) (numbers₀ affirms₀ numbers affirms ns bs : List ℕ)
-    (count number i : ℕ) (x : O.Opened)
+    (count number i code : ℕ) (g : Goal) (ps : Premises)
     : Type 0 where
   pub so-far : i + 1 ≤ length steps
   pub few : count ≤ mostDepth
@@ -164,7 +176,8 @@ pub record Turned
   pub room-too : length bs ≡ mostDepth
   pub is-done :
       Done (goalsOf es steps goal) numbers₀ affirms₀ numbers affirms (i + 1)
-      (onward es x number (drop (i + 1) steps) (waiting ns bs count))
+      (onward es (opened g ps) number (drop (i + 1) steps) (waiting ns bs count))
+  pub counts : OfPremises (Counted code) (opened g ps)
 
 -- Before the first step, the goal is open and none waits.
 pub reached-none : (es : List Entry) (steps : List ℕ) (goal : ℕ) (numbers affirms ns bs : List ℕ)
@@ -197,14 +210,14 @@ module _ {es : List Entry} {steps : List ℕ} {goal : ℕ} {numbers₀ affirms�
     steps-end l = done-all (rw (drop-of-length-le steps l) at (h .is-done))
 
     -- The goal is stored, and the rule of the step's code applied to it.
-    pub turned : {numbers′ affirms′ : List ℕ} {code part : ℕ} {here : Goal} {x : O.Opened}
+    pub turned : {numbers′ affirms′ : List ℕ} {code part : ℕ} {here : Goal} {ps : Premises}
         → i < length steps → numbers′ ≡ set numbers i number → affirms′ ≡ set affirms i affirm
         → here ≡ goalAt es number affirm → code ≡ upper (getD steps i 0) → part ≡ lower (getD steps i 0)
-        → x ≡ tested (getD (rules same es) code unknown) true part here
-        → Turned es steps goal numbers₀ affirms₀ numbers′ affirms′ ns bs count number i x
-    turned {x = x} l n b goal-is code-is part-is x-is =
-        let opens : x ≡ opensFreely es (getD steps i 0) (goalAt es number affirm) =
-        rw (goal-is, code-is, part-is) at x-is in
+        → opened here ps ≡ tested (getD (rules same es) code unknown) true part here
+        → Turned es steps goal numbers₀ affirms₀ numbers′ affirms′ ns bs count number i code here ps
+    turned {code = code} {part} {here} {ps} l n b goal-is code-is part-is x-is =
+        let opens : opened here ps ≡ opensFreely es (getD steps i 0) (goalAt es number affirm) =
+        x-is ∙ rw (goal-is, code-is, part-is) in
         let fits : length (waiting ns bs count) ≤ mostDepth = rw waiting-length (h .few) in
         let next = turn es steps i (kept number affirm) (waiting ns bs count) l fits opens in record {
           so-far = omega arith;
@@ -212,76 +225,87 @@ module _ {es : List Entry} {steps : List ℕ} {goal : ℕ} {numbers₀ affirms�
           room = h .room;
           room-too = h .room-too;
           is-done = done-next (rw next at (h .is-done)) n b;
+          counts = rw x-is (tested-counts es code true part here);
         }
 
-  module _ {x : O.Opened} (h : Turned es steps goal numbers₀ affirms₀ numbers affirms ns bs count number i x) where
+  module _ {code : ℕ} {g : Goal} {ps : Premises}
+      (h : Turned es steps goal numbers₀ affirms₀ numbers affirms ns bs count number i code g ps) where
     pub turned-lengths : (length numbers ≡ length numbers₀) × (length affirms ≡ length affirms₀)
     turned-lengths = done-lengths (h .is-done)
 
-    -- Refused; nothing is open any more; or more wait than may: the goals end.
-    pub ends-refused : {r : Bool} → r ≡ isRefused x → r ≡ true → Writes es steps goal numbers₀ affirms₀ numbers affirms
+    -- Refused: the goals end.
+    pub ends-refused : {r : Bool} → r ≡ isRefused (opened g ps) → r ≡ true
+        → Writes es steps goal numbers₀ affirms₀ numbers affirms
     ends-refused r-is e =
-        let on = on-refused es number (drop (i + 1) steps) (waiting ns bs count) x (sym r-is ∙ e) in
+        let on = on-refused es number (drop (i + 1) steps) (waiting ns bs count) (opened g ps) (sym r-is ∙ e) in
         done-all (rw on at (h .is-done))
 
-    pub ends-closed : {r : Bool} {c : ℕ} → r ≡ isRefused x → r ≡ false → c ≡ countOf x → c ≡ 0 → count ≡ 0
-        → Writes es steps goal numbers₀ affirms₀ numbers affirms
-    unfolding waiting
-    ends-closed r-is e c-is z none =
-        let on = on-closed es number (drop (i + 1) steps) (waiting ns bs count) x (sym r-is ∙ e) (sym c-is ∙ z) in
-        let empty : waiting ns bs count ≡ [] = rw none in
-        done-all (rw (on, empty, none-open es (drop (i + 1) steps)) at (h .is-done))
+    -- Not refused, and c is the count of its code.
+    module _ {r : Bool} {c : ℕ} (r-is : r ≡ isRefused (opened g ps)) (e : r ≡ false)
+        (c-is : c ≡ getD premiseCounts code 0) where
+      -- Nothing is open any more, or more wait than may: the goals end.
+      pub ends-closed : c ≡ 0 → count ≡ 0 → Writes es steps goal numbers₀ affirms₀ numbers affirms
+      unfolding waiting
+      ends-closed z none =
+          let on = on-closed es number (drop (i + 1) steps) (waiting ns bs count) code g (opened g ps) (h .counts)
+          (sym r-is ∙ e) c-is z in
+          let empty : waiting ns bs count ≡ [] = rw none in
+          done-all (rw (on, empty, none-open es (drop (i + 1) steps)) at (h .is-done))
 
-    pub ends-full : {c : ℕ} → c ≡ countOf x → c ≡ 2 → count ≡ mostDepth
-        → Writes es steps goal numbers₀ affirms₀ numbers affirms
-    ends-full c-is two full =
-        let all-wait = waiting-length ns bs count ∙ full in
-        let on = on-full es number (drop (i + 1) steps) (waiting ns bs count) x (sym c-is ∙ two) all-wait in
-        done-all (rw on at (h .is-done))
+      pub ends-full : 1 < c → count ≡ mostDepth → Writes es steps goal numbers₀ affirms₀ numbers affirms
+      ends-full two full =
+          let all-wait = waiting-length ns bs count ∙ full in
+          let on = on-full es number (drop (i + 1) steps) (waiting ns bs count) code g (opened g ps) (h .counts)
+          (sym r-is ∙ e) c-is two all-wait in
+          done-all (rw on at (h .is-done))
 
-    -- No premise: the last that waits is next.
-    pub goes-back : {r : Bool} {c : ℕ} → r ≡ isRefused x → r ≡ false → c ≡ countOf x → c ≡ 0 → ¬ (count ≡ 0)
-        → Reached es steps goal numbers₀ affirms₀ numbers affirms ns bs (count - 1)
-        (getD ns (count - 1) 0) (getD bs (count - 1) 0) (i + 1)
-    goes-back r-is e c-is z some =
-        let on = on-closed es number (drop (i + 1) steps) (waiting ns bs count) x (sym r-is ∙ e) (sym c-is ∙ z) in
-        let top = popped ns bs count (omega (arith, some)) in record {
-          so-far = h .so-far;
-          few = omega (arith, h .few);
-          room = h .room;
-          room-too = h .room-too;
-          is-done = rw (on, top) at (h .is-done);
-        }
+      -- No premise: the last that waits is next.
+      pub goes-back : c ≡ 0 → ¬ (count ≡ 0)
+          → Reached es steps goal numbers₀ affirms₀ numbers affirms ns bs (count - 1)
+          (getD ns (count - 1) 0) (getD bs (count - 1) 0) (i + 1)
+      goes-back z some =
+          let on = on-closed es number (drop (i + 1) steps) (waiting ns bs count) code g (opened g ps) (h .counts)
+          (sym r-is ∙ e) c-is z in
+          let top = popped ns bs count (omega (arith, some)) in record {
+            so-far = h .so-far;
+            few = omega (arith, h .few);
+            room = h .room;
+            room-too = h .room-too;
+            is-done = rw (on, top) at (h .is-done);
+          }
 
-    -- One premise: it is next.
-    pub goes-on : {c : ℕ} {first : Kept} → c ≡ countOf x → ¬ (c ≡ 0) → ¬ (c ≡ 2) → first ≡ firstKept number x
-        → Reached es steps goal numbers₀ affirms₀ numbers affirms ns bs count (first .number) (first .affirms) (i + 1)
-    goes-on c-is z t first-is =
-        let on = on-one es number (drop (i + 1) steps) (waiting ns bs count) x (λ e. z (c-is ∙ e))
-        (λ e. t (c-is ∙ e)) in
-        record {
-          so-far = h .so-far;
-          few = h .few;
-          room = h .room;
-          room-too = h .room-too;
-          is-done = rw first-is (rw on at (h .is-done));
-        }
+      -- One premise: it is next.
+      pub goes-on : {first : Premise} {next : Kept} → ¬ (c ≡ 0) → c ≤ 1
+          → first ≡ firstOf g (opened g ps) → next ≡ keptAs number (first .goal)
+          → Reached es steps goal numbers₀ affirms₀ numbers affirms ns bs count (next .number) (next .affirms) (i + 1)
+      goes-on z most first-is next-is =
+          let on = on-one es number (drop (i + 1) steps) (waiting ns bs count) code g (opened g ps) (h .counts)
+          (sym r-is ∙ e) c-is (omega (arith, z)) in
+          record {
+            so-far = h .so-far;
+            few = h .few;
+            room = h .room;
+            room-too = h .room-too;
+            is-done = rw (next-is, first-is) (rw on at (h .is-done));
+          }
 
-    -- Two: the first is next and the last waits.
-    pub goes-down : {c : ℕ} {first last : Kept} → c ≡ countOf x → c ≡ 2 → ¬ (count ≡ mostDepth)
-        → first ≡ firstKept number x → last ≡ lastKept number x
-        → Reached es steps goal numbers₀ affirms₀ numbers affirms (set ns count (last .number))
-        (set bs count (last .affirms)) (count + 1) (first .number) (first .affirms) (i + 1)
-    goes-down {last = last} c-is two some first-is last-is =
-        let room = h .room in
-        let room-too = h .room-too in
-        let few = h .few in
-        let less : count < mostDepth = omega (arith, some) in
-        let on = on-two es number (drop (i + 1) steps) (waiting ns bs count) x (sym c-is ∙ two) in
-        let top = pushed ns bs count (last .number) (last .affirms) (omega arith) (omega arith) in record {
-          so-far = h .so-far;
-          few = omega arith;
-          room = length-set ns count (last .number) ∙ room;
-          room-too = length-set bs count (last .affirms) ∙ room-too;
-          is-done = rw (top, first-is, last-is) (rw on at (h .is-done));
-        }
+      -- Two: the first is next and the last waits.
+      pub goes-down : {first last : Premise} {next later : Kept} → 1 < c → ¬ (count ≡ mostDepth)
+          → first ≡ firstOf g (opened g ps) → next ≡ keptAs number (first .goal)
+          → last ≡ lastOf g (opened g ps) → later ≡ keptAs number (last .goal)
+          → Reached es steps goal numbers₀ affirms₀ numbers affirms (set ns count (later .number))
+          (set bs count (later .affirms)) (count + 1) (next .number) (next .affirms) (i + 1)
+      goes-down {later = later} two some first-is next-is last-is later-is =
+          let room = h .room in
+          let room-too = h .room-too in
+          let few = h .few in
+          let less : count < mostDepth = omega (arith, some) in
+          let on = on-two es number (drop (i + 1) steps) (waiting ns bs count) code g (opened g ps) (h .counts)
+          (sym r-is ∙ e) c-is two in
+          let top = pushed ns bs count (later .number) (later .affirms) (omega arith) (omega arith) in record {
+            so-far = h .so-far;
+            few = omega arith;
+            room = length-set ns count (later .number) ∙ room;
+            room-too = length-set bs count (later .affirms) ∙ room-too;
+            is-done = rw (top, next-is, first-is, later-is, last-is) (rw on at (h .is-done));
+          }

@@ -3,16 +3,19 @@
 ghost use mathlib.Core.Path.{_≡_};
 ghost use Rattle.basics.specs.Written.{written};
 ghost use Rattle.table.specs.Tests.{entries};
-ghost use Rattle.rules.specs.Premises.{opened};
+ghost use Rattle.premises.specs.Premises.{opened};
 ghost use Rattle.goals.specs.Goals.{keptAs, goalsOf, numbersOf, affirmsOf};
-ghost use Rattle.goals.specs.Next.{isRefused, countOf, firstKept, lastKept};
+ghost use Rattle.goals.specs.Next.{isRefused};
 use crate::kept::Kept;
 use crate::kept::goal_at;
 use basics::limits::MOST_DEPTH;
 use basics::list::put;
 use basics::word::lower;
 use basics::word::upper;
-use rules::premises::Premises;
+use premises::premise_count::premise_count;
+use premises::premises::Premises;
+use premises::premises::first_premise;
+use premises::premises::last_premise;
 use rules::step::apply;
 use steps::goal::Goal;
 use table::entry::Formula;
@@ -47,72 +50,6 @@ fn is_refused(premises: Premises) -> bool
     }
 }
 
-// How many premises a step opens.
-fn premise_count(premises: Premises) -> usize
-    ensures { λ r. ⌜ ((g : Goal) → r ≡ countOf (opened g premises)) ⌝ }
-{
-    match premises {
-        Premises::Refused(_) => 0,
-        Premises::Closed => 0,
-        Premises::Truth(_) => 1,
-        Premises::TruthWith(_, _) => 1,
-        Premises::With(_) => 1,
-        Premises::WithBoth(_, _) => 1,
-        Premises::TruthThenWith(_, _) => 2,
-        Premises::BothTruths(_, _) => 2,
-        Premises::WithEither(_, _) => 2,
-        Premises::Affirmation(_, _) => 1,
-    }
-}
-
-// The goal of the first premise, where the conclusion is this goal, kept by this number.
-fn first_goal(premises: Premises, number: u16, goal: Goal) -> Kept
-    ensures { λ r. ⌜ r ≡ firstKept number (opened goal premises) ⌝ }
-{
-    match premises {
-        Premises::Refused(_) => Kept {
-            number: 0,
-            affirms: 0,
-        },
-        Premises::Closed => Kept {
-            number: 0,
-            affirms: 0,
-        },
-        Premises::Truth(a) => keep_truth(a),
-        Premises::TruthWith(b, _) => keep_truth(b),
-        Premises::With(_) => keep(number, goal),
-        Premises::WithBoth(_, _) => keep(number, goal),
-        Premises::TruthThenWith(a, _) => keep_truth(a),
-        Premises::BothTruths(a, _) => keep_truth(a),
-        Premises::WithEither(_, _) => keep(number, goal),
-        Premises::Affirmation(_, _) => Kept { number, affirms: 1 },
-    }
-}
-
-// The goal of the last premise.
-fn last_goal(premises: Premises, number: u16, goal: Goal) -> Kept
-    ensures { λ r. ⌜ r ≡ lastKept number (opened goal premises) ⌝ }
-{
-    match premises {
-        Premises::Refused(_) => Kept {
-            number: 0,
-            affirms: 0,
-        },
-        Premises::Closed => Kept {
-            number: 0,
-            affirms: 0,
-        },
-        Premises::Truth(a) => keep_truth(a),
-        Premises::TruthWith(b, _) => keep_truth(b),
-        Premises::With(_) => keep(number, goal),
-        Premises::WithBoth(_, _) => keep(number, goal),
-        Premises::TruthThenWith(_, _) => keep(number, goal),
-        Premises::BothTruths(_, b) => keep_truth(b),
-        Premises::WithEither(_, _) => keep(number, goal),
-        Premises::Affirmation(_, _) => Kept { number, affirms: 1 },
-    }
-}
-
 // Writes the goal of each step, in two words, from the start of two lists, as far as each goes. The goals of second
 // premises wait in two arrays until the first premise is proved.
 pub fn write_goals(
@@ -136,13 +73,14 @@ pub fn write_goals(
         put(numbers, i, number);
         put(affirms, i, affirm);
         let word = steps[i];
+        let code = upper(word);
         let here = goal_at(heads, seconds, number, affirm);
         // 12 has passed, so what the word names is held.
-        let premises = apply(heads, seconds, true, upper(word), lower(word), here);
+        let premises = apply(heads, seconds, true, code, lower(word), here);
         if is_refused(premises) {
             return;
         }
-        let count = premise_count(premises);
+        let count = premise_count(code);
         if count == 0 {
             if waiting == 0 {
                 return;
@@ -151,18 +89,23 @@ pub fn write_goals(
             number = waiting_numbers[waiting];
             affirm = waiting_affirms[waiting];
         } else {
-            if count == 2 {
+            // Where there is one, it is both.
+            let first = first_premise(premises, here);
+            let last = last_premise(premises, here);
+            let first_goal = first.goal;
+            let last_goal = last.goal;
+            if count > 1 {
                 if waiting == MOST_DEPTH {
                     return;
                 }
-                let last = last_goal(premises, number, here);
-                waiting_numbers[waiting] = last.number;
-                waiting_affirms[waiting] = last.affirms;
+                let later = keep(number, last_goal);
+                waiting_numbers[waiting] = later.number;
+                waiting_affirms[waiting] = later.affirms;
                 waiting += 1;
             }
-            let first = first_goal(premises, number, here);
-            number = first.number;
-            affirm = first.affirms;
+            let next = keep(number, first_goal);
+            number = next.number;
+            affirm = next.affirms;
         }
         i += 1;
     }

@@ -1,6 +1,6 @@
 -- Laws of tests 10 to 12: which numbers have an entry, which codes have no rule, and that with 12 answered by the slots
 -- a step is the rule of its word's code. Assumes nothing.
-use Prim.Native.Nat.{ℕ, zero, suc, _<_, _≤_, min}
+use Prim.Native.Nat.{ℕ, _<_, _≤_, min}
 use native.Mathlib.Omega.{arith}
 use mathlib.Core.Bool.{Bool, true, false}
 use mathlib.Core.Path.{_≡_, refl, sym}
@@ -23,6 +23,7 @@ use Rattle.steps.specs.Figure1 as Figure1
 use Rattle.steps.specs.Figure1.{same}
 use Rattle.hypotheses.specs.Slots.{isHeld, shown}
 use Rattle.hypotheses.proofs.Shown.{shows-shown}
+use Rattle.premises.proofs.Past.{NoneBelow, past}
 use Rattle.rules.specs.Tested.{tested, TestedIsApplied}
 
 -- A number has an entry where both arrays have a word.
@@ -34,15 +35,6 @@ has-entry hs ss n = by-tests (ltb n (length hs)) (ltb n (length ss)) refl refl (
     by-tests true true p q m = sym (lt-ltb n (length (entries hs ss)) (omega (arith, ltb-true)))
     by-tests true false p q m = sym (le-ltb n (length (entries hs ss)) (omega (arith, ltb-false)))
     by-tests false t p q m = sym (le-ltb n (length (entries hs ss)) (omega (arith, ltb-false)))
-
--- x is none of the numbers below k, as the `_` of a match on these leaves it: so it is k or more.
-abbrev pub NoneBelow : ℕ → ℕ → Type 0
-NoneBelow zero x = Unit
-NoneBelow (suc k) x = NoneBelow k x × ¬ (x ≡ k)
-
-pub past : (k x : ℕ) → NoneBelow k x → k ≤ x
-past zero x none = omega arith
-past (suc k) x (none, other) = omega (arith, past k x none)
 
 -- A code past the last is no rule, and is refused 11.
 pub no-rule : (es : List Entry) (code : ℕ) (held : Bool) (n : ℕ) (g : Goal) → NoneBelow 12 code

@@ -1,4 +1,3 @@
--- What a step leaves to prove, in the machine's words; and a step with test 12 answered. The meaning of a step is in
--- the crate `steps`, and how lent slots stand for hypotheses in `hypotheses`.
-pub mod Premises
+-- A step with test 12 answered. The meaning of a step is in the crate `steps`, how premises are told by their shape in
+-- `premises`, and how lent slots stand for hypotheses in `hypotheses`.
 pub mod Tested

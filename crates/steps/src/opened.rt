@@ -1,4 +1,5 @@
-// What one step leaves to prove, in the machine's words: for definitions. The code has `Premises` of `rules`.
+// What one step leaves to prove, in the machine's words. The code has a step's premises by their shape, `Premises` of
+// the crate `premises`, and takes each as a `Premise`.
 use crate::goal::Goal;
 use table::entry::Formula;
 

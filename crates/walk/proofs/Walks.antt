@@ -1,14 +1,15 @@
 -- Laws of the walk: the machine's run from entry is the run from here, and what was held since can be taken back. In
--- order: what is held since; what the slots show; the run from here; premises; the loop goes on; a call for a premise;
--- depth; affirmations; the end. Assumes nothing.
+-- order: what is held since; what the slots show; the run from here; how many premises; premises; a call for a premise;
+-- depth; turns; the end. Assumes nothing.
 use Prim.Native.Nat.{ℕ, suc, _+_, _<_, _≤_}
 use native.Mathlib.Omega.{arith}
 use native.Mathlib.Numerals.{add-one}
-use mathlib.Core.Path.{_≡_, refl, sym, ap, _∙_, subst}
+use mathlib.Core.Path.{_≡_, refl, sym, ap, ap₂, _∙_, subst}
 use mathlib.Core.List.{List, [], _∷_, _++_, append-nil, map}
 use lib.ListN.{length, getD}
 use lib.Seq.{append-snoc}
 use Rattle.basics.specs.Limits.{mostDepth}
+use Rattle.basics.specs.Word.{upper}
 use Rattle.basics.specs.Membership.{holds}
 use Rattle.basics.proofs.Membership.{holds-append}
 use Rattle.table.specs.declared.entry.Entry.{Entry}
@@ -21,23 +22,26 @@ use Rattle.steps.specs.declared.opened.Opened.{Opened}
 use Rattle.steps.specs.declared.opened.Opened.the-variants as Opening
 use Rattle.steps.specs.declared.verdict.WalkVerdict.{WalkVerdict}
 use Rattle.steps.specs.declared.verdict.WalkVerdict.the-variants as Verdicts
-use Rattle.steps.specs.Obligation.{alone, adding, addingBoth, added, under}
+use Rattle.steps.specs.Obligation.{added, under}
 use Rattle.steps.specs.Applies.{Takes}
 use Rattle.steps.specs.Run.{after}
 use Rattle.steps.specs.Figure1.{same, step}
 use Rattle.steps.specs.Parts.{andThen, walkFrom}
+use Rattle.steps.specs.PremiseCounts.{premiseCounts}
 use Rattle.steps.proofs.Alike.{walk-named}
 use Rattle.steps.proofs.Parts.{refusedAt, uses-words, walk-done, walk-ends, walk-steps, one-after-another}
 use Rattle.steps.proofs.Steps.{step-takes}
 use Rattle.steps.proofs.Cases.{OfPremises}
-use Rattle.hypotheses.specs.Slots.{half, shown, heldOne, countOne, released}
+use Rattle.steps.proofs.PremiseCounts.{Counted, step-counts}
+use Rattle.hypotheses.specs.Slots.{half, shown, heldOne, countOne, heldAll, countAll, released}
 use Rattle.hypotheses.specs.Trail.{Kept, Undoes}
 use Rattle.hypotheses.proofs.Shown.{shows-shown}
 use Rattle.hypotheses.proofs.Trail.{kept-nothing, same-half, live-most, live-kept, live-hold, half-hold, count-hold, undoes-nothing, undoes-kept, undoes-hold, undoes-length}
-use Rattle.hypotheses.proofs.Held.{shown-hold}
-use Rattle.rules.specs.declared.premises.Premises.{Premises}
-use Rattle.rules.specs.Premises.{opened}
-use Rattle.walk.proofs.Affirmations.{Turns, step-turns}
+use Rattle.hypotheses.proofs.Held.{shown-all}
+use Rattle.premises.specs.declared.premises.Premises.{Premises}
+use Rattle.premises.specs.Premises.{opened, firstOf, lastOf}
+use Rattle.premises.proofs.Counts.{Taken, none-opened, one-opened, two-opened}
+use Rattle.walk.proofs.Turns.{Turns, step-turns}
 use Rattle.walk.specs.declared.walk.Walk.{Walk}
 use Rattle.walk.specs.declared.walk.Walked.{Walked}
 use Rattle.walk.specs.declared.walk.Walked.the-variants.{Done, Refused}
@@ -78,13 +82,22 @@ module _ {es : List Entry} {from : ℕ} {before slots : List ℕ} {held : ℕ} (
     counted = let least = count-hold slots held n in let from-held = since .counted in omega arith;
   }
 
--- A premise that held one formula is proved, and the formula taken back: all is as it was.
-pub held-back : {es : List Entry} {slots one during after : List ℕ} {held count : ℕ} (n : ℕ) → Ready es slots held
-    → count ≡ countOne slots held n → one ≡ heldOne slots held n → Kept count one during
+-- All that a premise adds is held.
+pub since-all : {es : List Entry} {from : ℕ} {before slots : List ℕ} {held : ℕ} (ns : List ℕ)
+    → Since es from before slots held
+    → Since es from before (heldAll slots held ns) (countAll slots held ns)
+unfolding heldAll countAll
+since-all [] since = since
+since-all (n ∷ ns) since = since-all ns (since-hold since n)
+
+-- A premise is proved, and what it added taken back: all is as it was.
+pub held-back : {es : List Entry} {slots more during after : List ℕ} {held count : ℕ} (ns : List ℕ)
+    → Ready es slots held
+    → count ≡ countAll slots held ns → more ≡ heldAll slots held ns → Kept count more during
     → after ≡ released during held count
     → Kept held slots after
-held-back n ready counts holds kept back =
-    rw (back, counts) (since-kept (since-hold (since-nothing ready) n) (rw (counts, holds) at kept) .undoes .leaves)
+held-back ns ready counts holds kept back =
+    rw (back, counts) (since-kept (since-all ns (since-nothing ready)) (rw (counts, holds) at kept) .undoes .leaves)
 
 -- ---- what the slots show
 
@@ -119,6 +132,44 @@ pub record Here (es : List Entry) (steps slots : List ℕ) (w : Walk) (x : Premi
   pub inside : w .next < length steps
   pub opens : opened (w .goal) x ≡ step es (getD steps (w .next) 0) (obligationOf w slots)
 
+-- what the machine answers for a premise from word n on
+abbrev pub premiseFrom : List Entry → List ℕ → List ℕ → Walk → ℕ → Premise → WalkVerdict
+premiseFrom es steps slots w n p = walkFrom same mostDepth es steps n (under (obligationOf w slots) p ∷ [])
+
+-- ---- how many premises
+
+-- Its code's count is c, and it isn't refused.
+pub record Counts (es : List Entry) (steps slots : List ℕ) (w : Walk) (x : Premises) (c : ℕ) : Type 0 where
+  pub here : Here es steps slots w x
+  pub taken : Taken (opened (w .goal) x)
+  pub count : c ≡ getD premiseCounts (upper (getD steps (w .next) 0)) 0
+
+-- So it closes, or opens one premise, or two.
+module _ {es : List Entry} {steps slots : List ℕ} {w : Walk} {x : Premises} {c : ℕ}
+    (counts : Counts es steps slots w x c) where
+  abbrev code : ℕ
+  code = upper (getD steps (w .next) 0)
+
+  abbrev opening : Opened
+  opening = opened (w .goal) x
+
+  row-counts : OfPremises (Counted code) opening
+  row-counts = rw (counts .here .opens)
+      (step-counts same es mostDepth (getD steps (w .next) 0) (obligationOf w slots))
+
+  pub opens-none : c ≡ 0 → opening ≡ Opening.Closed
+  opens-none e = none-opened code opening row-counts (counts .taken) (sym (counts .count) ∙ e)
+
+  pub opens-one : {q : Premise} → c ≡ 1 → q ≡ lastOf (w .goal) opening → opening ≡ Opening.One q
+  opens-one e last =
+      one-opened code (w .goal) opening row-counts (counts .taken) (sym (counts .count) ∙ e) ∙ ap Opening.One (sym last)
+
+  pub opens-two : {p q : Premise} → ¬ (c ≡ 0) → ¬ (c ≡ 1) → p ≡ firstOf (w .goal) opening → q ≡ lastOf (w .goal) opening
+      → opening ≡ Opening.Two p q
+  opens-two other others first last =
+      two-opened code (w .goal) opening row-counts (counts .taken) (λ e. other (counts .count ∙ e))
+      (λ e. others (counts .count ∙ e)) ∙ ap₂ Opening.Two (sym first) (sym last)
+
 module _ {es : List Entry} {steps before slots : List ℕ} {w₀ w : Walk} (on : On es steps before w₀ slots w) where
   -- The words end.
   pub at-end : length steps ≤ w .next → {r : Walked} → r ≡ Refused 9 (w .next)
@@ -133,10 +184,6 @@ module _ {es : List Entry} {steps before slots : List ℕ} {w₀ w : Walk} (on :
     answers = on .run-here ∙ rw (here .opens) (walk-steps same mostDepth es steps (w .next) (obligationOf w slots) []
         (here .inside))
 
-    -- what the machine answers for a premise from word n on
-    abbrev premiseFrom : ℕ → Premise → WalkVerdict
-    premiseFrom n p = walkFrom same mostDepth es steps n (under (obligationOf w slots) p ∷ [])
-
     pub refused : {number : ℕ} → opened (w .goal) x ≡ Opening.Refused number → {r : Walked}
         → r ≡ Refused number (w .next)
         → verdictOf r ≡ runFrom es steps before w₀
@@ -146,11 +193,12 @@ module _ {es : List Entry} {steps before slots : List ℕ} {w₀ w : Walk} (on :
     closed e = rw (answers, e, walk-done same mostDepth es) (ap Verdicts.Closed (add-one (w .next)))
 
     pub one : {p : Premise} → opened (w .goal) x ≡ Opening.One p
-        → runFrom es steps before w₀ ≡ premiseFrom (w .next + 1) p
-    one {p} e = rw (answers, e) (ap (λ n. premiseFrom n p) (sym (add-one (w .next))))
+        → runFrom es steps before w₀ ≡ premiseFrom es steps slots w (w .next + 1) p
+    one {p} e = rw (answers, e) (ap (λ n. premiseFrom es steps slots w n p) (sym (add-one (w .next))))
 
     two : {p q : Premise} → opened (w .goal) x ≡ Opening.Two p q
-        → runFrom es steps before w₀ ≡ andThen (premiseFrom (w .next + 1) p) (λ n. premiseFrom n q)
+        → runFrom es steps before w₀
+        ≡ andThen (premiseFrom es steps slots w (w .next + 1) p) (λ n. premiseFrom es steps slots w n q)
     two {p} {q} e =
         rw (answers, e, add-one (w .next))
         (one-after-another same mostDepth es steps (suc (w .next)) (under (obligationOf w slots) p ∷ [])
@@ -158,129 +206,84 @@ module _ {es : List Entry} {steps before slots : List ℕ} {w₀ w : Walk} (on :
 
     -- ---- premises
 
-    -- A premise is the walk that holds what it adds: in slots that show the hypotheses and what is added.
-    premise-is : (p : Premise) (n held : ℕ) (slots′ : List ℕ)
-        → ((i : ℕ) → i < half slots → holds (shown slots ++ added (p .added)) i ≡ holds (shown slots′) i)
-        → premiseFrom n p ≡ runFrom es steps slots′ (onward w (p .goal) n held)
-    premise-is p n held slots′ shows = walk-named same mostDepth es _ n (record {
-      same-goal = refl;
-      same-depth = sym (add-one (w .depth));
-      same-named = λ i l m. shows i (on .since .ready .marks i l m);
-    })
+    -- A premise is the walk that holds what it adds, in slots that a premise before it left.
+    premise-is : (p : Premise) (n : ℕ) {slots′ : List ℕ} → Kept (w .held) slots slots′
+        → premiseFrom es steps slots w n p ≡ runFrom es steps (heldAll slots′ (w .held) (added (p .added)))
+        (onward w (p .goal) n (countAll slots′ (w .held) (added (p .added))))
+    premise-is p n {slots′} kept =
+        let ns = added (p .added) in
+        walk-named same mostDepth es _ n (record {
+          same-goal = refl;
+          same-depth = sym (add-one (w .depth));
+          same-named = λ i l m.
+              let marked = on .since .ready .marks i l m in
+              rw (
+                holds-append (shown slots) ns i,
+                ← shown-kept i marked kept,
+                ← holds-append (shown slots′) ns i,
+              )
+              (sym (shown-all ns i (live-kept (on .since .ready .live) kept) (omega (arith, same-half (kept .same)))));
+        })
 
-    -- one that adds nothing, one formula, or two
-    alone-is : (g : Goal) (n : ℕ) {slots′ : List ℕ} → Kept (w .held) slots slots′
-        → premiseFrom n (alone g) ≡ runFrom es steps slots′ (onward w g n (w .held))
-    alone-is g n {slots′} kept = premise-is (alone g) n (w .held) slots′
-        (λ i l. rw append-nil (sym (shown-kept i l kept)))
+    -- What it adds can be taken back.
+    pub since-premise : (p : Premise) {n count : ℕ} {slots′ : List ℕ} {v : Walk}
+        → count ≡ countAll slots (w .held) (added (p .added)) → slots′ ≡ heldAll slots (w .held) (added (p .added))
+        → v ≡ onward w (p .goal) n count
+        → Since es (w₀ .held) before slots′ (v .held)
+    since-premise p counts holds is = rw (is, holds, counts) (since-all (added (p .added)) (on .since))
 
-    with-is : (g : Goal) (a : Formula) (n : ℕ) {slots′ : List ℕ} → Kept (w .held) slots slots′
-        → premiseFrom n (adding g a) ≡ runFrom es steps (heldOne slots′ (w .held) (a .0))
-        (onward w g n (countOne slots′ (w .held) (a .0)))
-    with-is g a n {slots′} kept =
-        premise-is (adding g a) n (countOne slots′ (w .held) (a .0)) (heldOne slots′ (w .held) (a .0)) (λ i l.
-        rw (
-          holds-append (shown slots) (a .0 ∷ []) i,
-          ← shown-kept i l kept,
-          ← holds-append (shown slots′) (a .0 ∷ [])
-              i,
-        )
-        (sym (shown-hold (a .0) i (live-kept (on .since .ready .live) kept) (omega (arith, same-half (kept .same))))))
-
-    both-is : (g : Goal) (a b : Formula) (n : ℕ)
-        → let one = heldOne slots (w .held) (a .0) in let count = countOne slots (w .held) (a .0) in
-        premiseFrom n (addingBoth g a b) ≡ runFrom es steps (heldOne one count (b .0))
-        (onward w g n (countOne one count (b .0)))
-    both-is g a b n =
-        let one = heldOne slots (w .held) (a .0) in
-        let count = countOne slots (w .held) (a .0) in
-        let live = on .since .ready .live in
-        premise-is (addingBoth g a b) n (countOne one count (b .0)) (heldOne one count (b .0)) (λ i l.
-        sym (shown-hold (b .0) i (live-hold (a .0) live) (omega (arith, half-hold slots (w .held) (a .0)))
-        ∙ rw (
-          holds-append (shown one) (b .0 ∷ []) i,
-          shown-hold (a .0) i live l,
-          ← holds-append
-              (shown slots ++ (a .0 ∷ [])) (b .0 ∷ []) i,
-          append-snoc,
-        )))
-
-    -- ---- the loop goes on
-
-    -- with a premise that adds nothing, from slots that a premise before it left,
-    pub goes-alone : (g : Goal) (n : ℕ) {slots′ : List ℕ} {v : Walk}
-        → runFrom es steps before w₀ ≡ premiseFrom n (alone g) → w .next ≤ n
-        → Kept (w .held) slots slots′ → v ≡ onward w g n (w .held) → On es steps before w₀ slots′ v
-    goes-alone g n run later kept is = rw is (record {
-      run-here = run ∙ alone-is g n kept;
-      since = since-kept (on .since) kept;
-      forward = let f = on .forward in omega arith;
-    })
-
-    -- with one that adds a formula,
-    pub goes-with : (g : Goal) (a : Formula) (n : ℕ) {slots′ slots″ : List ℕ} {count : ℕ} {v : Walk}
-        → runFrom es steps before w₀ ≡ premiseFrom n (adding g a) → w .next ≤ n → Kept (w .held) slots slots′
-        → count ≡ countOne slots′ (w .held) (a .0) → slots″ ≡ heldOne slots′ (w .held) (a .0) → v ≡ onward w g n count
+    -- The loop goes on with a premise.
+    pub goes-on : (p : Premise) (n : ℕ) {g : Goal} {slots′ slots″ : List ℕ} {count : ℕ} {v : Walk}
+        → runFrom es steps before w₀ ≡ premiseFrom es steps slots w n p → w .next ≤ n → Kept (w .held) slots slots′
+        → count ≡ countAll slots′ (w .held) (added (p .added)) → slots″ ≡ heldAll slots′ (w .held) (added (p .added))
+        → p .goal ≡ g → v ≡ onward w g n count
         → On es steps before w₀ slots″ v
-    goes-with g a n run later kept counts holds is = rw (is, holds, counts) (record {
-      run-here = run ∙ with-is g a n kept;
-      since = since-hold (since-kept (on .since) kept) (a .0);
-      forward = let f = on .forward in omega arith;
-    })
-
-    -- and with one that adds two.
-    pub goes-both : (g : Goal) (a b : Formula) {one slots′ : List ℕ} {count count′ : ℕ} {v : Walk}
-        → opened (w .goal) x ≡ Opening.One (addingBoth g a b)
-        → count ≡ countOne slots (w .held) (a .0) → one ≡ heldOne slots (w .held) (a .0)
-        → count′ ≡ countOne one count (b .0) → slots′ ≡ heldOne one count (b .0) → v ≡ onward w g (w .next + 1) count′
-        → On es steps before w₀ slots′ v
-    goes-both g a b e counts holds counts′ holds′ is = rw (is, holds′, counts′, holds, counts) (record {
-      run-here = one e ∙ both-is g a b (w .next + 1);
-      since = since-hold (since-hold (on .since) (a .0)) (b .0);
+    goes-on p n run later kept counts holds goal is = rw (is, ← goal, holds, counts) (record {
+      run-here = run ∙ premise-is p n kept;
+      since = since-all (added (p .added)) (since-kept (on .since) kept);
       forward = let f = on .forward in omega arith;
     })
 
     -- ---- a call for a premise
 
-    -- the walk of a premise that adds nothing, or one formula, answers as the machine
-    pub called-alone : (g : Goal) {v : Walk} {verdict : WalkVerdict} → v ≡ onward w g (w .next + 1) (w .held)
-        → verdict ≡ runFrom es steps slots v → verdict ≡ premiseFrom (w .next + 1) (alone g)
-    called-alone g is e = e ∙ rw is (sym (alone-is g (w .next + 1) kept-nothing))
-
-    pub called-with : (g : Goal) (a : Formula) {slots′ : List ℕ} {count : ℕ} {v : Walk} {verdict : WalkVerdict}
-        → slots′ ≡ heldOne slots (w .held) (a .0) → v ≡ onward w g (w .next + 1) count
-        → verdict ≡ runFrom es steps slots′ v
-        → verdict ≡ premiseFrom (w .next + 1) (adding g a)
-    called-with g a holds is e = e ∙ rw (is, holds) (sym (with-is g a (w .next + 1) kept-nothing))
+    -- The walk of a premise answers as the machine.
+    pub called : (p : Premise) {slots′ : List ℕ} {count : ℕ} {v : Walk} {verdict : WalkVerdict}
+        → count ≡ countAll slots (w .held) (added (p .added)) → slots′ ≡ heldAll slots (w .held) (added (p .added))
+        → v ≡ onward w (p .goal) (w .next + 1) count → verdict ≡ runFrom es steps slots′ v
+        → verdict ≡ premiseFrom es steps slots w (w .next + 1) p
+    called p counts holds is e = e ∙ rw (is, holds, counts) (sym (premise-is p (w .next + 1) kept-nothing))
 
     -- A premise is proved by a word or more.
-    pub premise-past : (p : Premise) {r : Walked} {v : Walk} → verdictOf r ≡ premiseFrom (w .next + 1) p → r ≡ Done v
+    pub premise-past : (p : Premise) {r : Walked} {v : Walk}
+        → verdictOf r ≡ premiseFrom es steps slots w (w .next + 1) p → r ≡ Done v
         → w .next + 1 < v .next
     premise-past p {r} {v} call is =
-        let closed : premiseFrom (w .next + 1) p ≡ Verdicts.Closed (v .next) = sym call ∙ ap verdictOf is in
+        let closed : premiseFrom es steps slots w (w .next + 1) p ≡ Verdicts.Closed (v .next) =
+        sym call ∙ ap verdictOf is in
         let (least, most) = uses-words same mostDepth es _ (w .next + 1) (v .next)
         (under (obligationOf w slots) p ∷ []) closed in
         omega arith
 
     -- The only premise is refused, or proved.
     pub only-refused : {p : Premise} {r : Walked} {number place : ℕ} → opened (w .goal) x ≡ Opening.One p
-        → verdictOf r ≡ premiseFrom (w .next + 1) p → r ≡ Refused number place
+        → verdictOf r ≡ premiseFrom es steps slots w (w .next + 1) p → r ≡ Refused number place
         → Verdicts.Refused number place ≡ runFrom es steps before w₀
     only-refused e call is = sym (ap verdictOf is) ∙ call ∙ sym (one e)
 
     pub only-proved : {p : Premise} {r : Walked} {v : Walk} → opened (w .goal) x ≡ Opening.One p
-        → verdictOf r ≡ premiseFrom (w .next + 1) p → r ≡ Done v
+        → verdictOf r ≡ premiseFrom es steps slots w (w .next + 1) p → r ≡ Done v
         → Verdicts.Closed (v .next) ≡ runFrom es steps before w₀
     only-proved e call is = sym (ap verdictOf is) ∙ call ∙ sym (one e)
 
     -- The first of two is refused, or proved, and then the second is due.
     pub first-refused : {p q : Premise} {r : Walked} {number place : ℕ} → opened (w .goal) x ≡ Opening.Two p q
-        → verdictOf r ≡ premiseFrom (w .next + 1) p → r ≡ Refused number place
+        → verdictOf r ≡ premiseFrom es steps slots w (w .next + 1) p → r ≡ Refused number place
         → Verdicts.Refused number place ≡ runFrom es steps before w₀
     first-refused e call is = sym (two e ∙ rw (← call, is))
 
     pub first-proved : {p q : Premise} {r : Walked} {v : Walk} → opened (w .goal) x ≡ Opening.Two p q
-        → verdictOf r ≡ premiseFrom (w .next + 1) p → r ≡ Done v → runFrom es steps before w₀ ≡ premiseFrom (v .next) q
+        → verdictOf r ≡ premiseFrom es steps slots w (w .next + 1) p → r ≡ Done v
+        → runFrom es steps before w₀ ≡ premiseFrom es steps slots w (v .next) q
     first-proved e call is = two e ∙ rw (← call, is)
 
     -- ---- depth
@@ -298,13 +301,14 @@ module _ {es : List Entry} {steps before slots : List ℕ} {w₀ w : Walk} (on :
         (step-takes same mostDepth es (getD steps (w .next) 0) (obligationOf w slots)) in
         takes .fits
 
-    -- ---- affirmations
+    -- ---- turns
 
-    -- What doesn't occur for an affirmation is absurd.
-    pub turns-here : {k : Principal} {f : Formula} → w .goal ≡ Affirms k f → {y : Opened} → opened (w .goal) x ≡ y
-        → OfPremises (Turns (Affirms k f)) y
-    turns-here is e = rw (← e, here .opens, ← is) (step-turns same es mostDepth (getD steps (w .next) 0)
-        (obligationOf w slots))
+    -- Of two premises, which are truths.
+    pub turns-here : {p q : Premise} → opened (w .goal) x ≡ Opening.Two p q → Turns (w .goal) (p ∷ q ∷ [])
+    turns-here {p} {q} e =
+        let turns : OfPremises (Turns (w .goal)) (Opening.Two p q) = rw (← here .opens, e) at
+        (step-turns same es mostDepth (getD steps (w .next) 0) (obligationOf w slots)) in
+        turns
 
 -- The goal is proved: what was held since is taken back.
 pub done : (es : List Entry) (steps before : List ℕ) (w₀ : Walk) {slots after : List ℕ} {n held : ℕ} {g : Goal}

@@ -1,17 +1,49 @@
 // The walk: "The state of the walk is handed on from step to step: next word, depth, hypotheses held." (01) One
-// function checks a truth, one an affirmation. Each goes on with a rule's last premise in its loop, and calls itself or
-// the other for a first premise and at rules 10, 1 and 3, always, while the words that are left fall.
+// function checks a truth, one an affirmation. The code of a step says how many premises it has (`premise_count`). Each
+// function goes on with a rule's last premise in its loop, and calls itself or the other for a first premise and at
+// rules 10, 1 and 3, always, while the words that are left fall.
 ghost use mathlib.Core.Path.{_≡_};
 ghost use Prim.Native.Nat.{_+_, _<_, _^_};
 ghost use Rattle.table.specs.Tests.{entries};
-ghost use Rattle.hypotheses.specs.Slots.{released};
+ghost use Rattle.steps.specs.Obligation.{added as added-by};
+ghost use Rattle.hypotheses.specs.Slots.{heldAll, countAll, released};
 ghost use Rattle.walk.specs.Walks as Walks;
+use basics::word::upper;
 use hypotheses::hypotheses::hold;
 use hypotheses::hypotheses::release;
-use rules::premises::Premises;
+use premises::premise_count::premise_count;
+use premises::premises::Premises;
+use premises::premises::first_premise;
+use premises::premises::last_premise;
 use rules::step::open_affirmation;
 use rules::step::open_truth;
 use steps::goal::Goal;
+use steps::opened::Added;
+
+// Holds what a premise adds. Answers how many hypotheses there are then.
+fn hold_added(slots: &mut [u16], held: usize, added: Added) -> usize
+    ensures { λ r. ⌜ r ≡ countAll (now (slots .entry)) held (added-by added) ⌝ }
+    ensures { λ _. ⌜ now (slots .exit) ≡ heldAll (now (slots .entry)) held (added-by added) ⌝ }
+{
+    match added {
+        Added::Nothing => held,
+        Added::One(a) => hold(slots, held, a),
+        Added::Two(a, b) => {
+            let one = hold(slots, held, a);
+            hold(slots, one, b)
+        }
+    }
+}
+
+// Once the first premise is proved, takes back what it added, from `held` hypotheses to `more`, and holds what the last
+// adds: no "carrying an added one into the second premise" (01). Answers how many there are then.
+fn hold_last(slots: &mut [u16], held: usize, more: usize, added: Added) -> usize
+    ensures { λ r. ⌜ r ≡ countAll (released (now (slots .entry)) held more) held (added-by added) ⌝ }
+    ensures { λ _. ⌜ now (slots .exit) ≡ heldAll (released (now (slots .entry)) held more) held (added-by added) ⌝ }
+{
+    release(slots, held, more);
+    hold_added(slots, held, added)
+}
 
 // The goal, the place of the next word, the depth of its step, and the count of hypotheses held.
 pub(crate) struct Walk {
@@ -100,87 +132,79 @@ impl Walk {
             place: self.next,
         };
         loop {
+            let here = walk.goal;
             let next = walk.next;
             let held = walk.held;
             if steps.len() <= next {
                 return walk.refused(9);
             }
-            match open_truth(heads, seconds, slots, walk.depth, f, steps[next]) {
+            let word = steps[next];
+            let premises = open_truth(heads, seconds, slots, walk.depth, f, word);
+            match premises {
                 Premises::Refused(number) => {
                     return walk.refused(number);
                 }
-                Premises::Closed => {
+                _ => {}
+            }
+            match premise_count(upper(word)) {
+                // It closes.
+                0 => {
                     return walk.proved(slots, next + 1, self.depth, self.held);
                 }
-                Premises::Truth(a) => {
-                    f = a;
-                    walk = walk.onward(Goal::True(a), next + 1, held);
+                // It goes on with its one premise.
+                1 => {
+                    let last = last_premise(premises, here);
+                    let goal = last.goal;
+                    let added = last.added;
+                    let more = hold_added(slots, held, added);
+                    match goal {
+                        Goal::True(a) => {
+                            f = a;
+                            walk = walk.onward(Goal::True(a), next + 1, more);
+                        }
+                        // Rule 10: an affirmation.
+                        Goal::Affirms(_, _) => {
+                            premise = walk.onward(goal, next + 1, more);
+                            walked = premise.affirmation(
+                                lent_heads,
+                                lent_seconds,
+                                lent_steps,
+                                slots,
+                            );
+                            match walked {
+                                Walked::Refused { number, place } => {
+                                    return Walked::Refused { number, place };
+                                }
+                                Walked::Done(after) => {
+                                    return premise.proved(slots, after.next, self.depth, self.held);
+                                }
+                            }
+                        }
+                    }
                 }
-                Premises::TruthWith(b, a) => {
-                    let more = hold(slots, held, a);
-                    f = b;
-                    walk = walk.onward(Goal::True(b), next + 1, more);
-                }
-                Premises::With(a) => {
-                    let more = hold(slots, held, a);
-                    walk = walk.onward(Goal::True(f), next + 1, more);
-                }
-                Premises::WithBoth(a, b) => {
-                    let one = hold(slots, held, a);
-                    let more = hold(slots, one, b);
-                    walk = walk.onward(Goal::True(f), next + 1, more);
-                }
-                Premises::TruthThenWith(a, b) => {
-                    premise = walk.onward(Goal::True(a), next + 1, held);
+                // "All of its first premise, then its second." (01)
+                _ => {
+                    let first = first_premise(premises, here);
+                    let goal = first.goal;
+                    let added = first.added;
+                    let more = hold_added(slots, held, added);
+                    premise = walk.onward(goal, next + 1, more);
                     walked = premise.truth(lent_heads, lent_seconds, lent_steps, slots);
                     match walked {
                         Walked::Refused { number, place } => {
                             return Walked::Refused { number, place };
                         }
                         Walked::Done(after) => {
-                            let more = hold(slots, held, b);
-                            walk = walk.onward(Goal::True(f), after.next, more);
-                        }
-                    }
-                }
-                Premises::BothTruths(a, b) => {
-                    premise = walk.onward(Goal::True(a), next + 1, held);
-                    walked = premise.truth(lent_heads, lent_seconds, lent_steps, slots);
-                    match walked {
-                        Walked::Refused { number, place } => {
-                            return Walked::Refused { number, place };
-                        }
-                        Walked::Done(after) => {
-                            f = b;
-                            walk = walk.onward(Goal::True(b), after.next, held);
-                        }
-                    }
-                }
-                Premises::WithEither(a, b) => {
-                    let one = hold(slots, held, a);
-                    premise = walk.onward(Goal::True(f), next + 1, one);
-                    walked = premise.truth(lent_heads, lent_seconds, lent_steps, slots);
-                    match walked {
-                        Walked::Refused { number, place } => {
-                            return Walked::Refused { number, place };
-                        }
-                        Walked::Done(after) => {
-                            release(slots, held, one);
-                            let more = hold(slots, held, b);
-                            walk = walk.onward(Goal::True(f), after.next, more);
-                        }
-                    }
-                }
-                // Rule 10.
-                Premises::Affirmation(k, a) => {
-                    premise = walk.onward(Goal::Affirms(k, a), next + 1, held);
-                    walked = premise.affirmation(lent_heads, lent_seconds, lent_steps, slots);
-                    match walked {
-                        Walked::Refused { number, place } => {
-                            return Walked::Refused { number, place };
-                        }
-                        Walked::Done(after) => {
-                            return walk.proved(slots, after.next, self.depth, self.held);
+                            let last = last_premise(premises, here);
+                            let goal = last.goal;
+                            // Where a truth has two premises, both are truths.
+                            let Goal::True(a) = goal else {
+                                return walk.refused(13);
+                            };
+                            let added = last.added;
+                            let more = hold_last(slots, held, more, added);
+                            f = a;
+                            walk = walk.onward(Goal::True(a), after.next, more);
                         }
                     }
                 }
@@ -188,7 +212,7 @@ impl Walk {
         }
     }
 
-    // Checks an affirmation. Rules 2, 5 and 10 need a truth, so their shapes don't occur.
+    // Checks an affirmation.
     fn affirmation(self, heads: &[u16], seconds: &[u16], steps: &[u16], slots: &mut [u16]) -> Walked
         requires { ⌜ Walks.IsAffirmation (self .goal) ⌝ }
         requires { ⌜ Walks.Ready (entries (now heads) (now seconds)) (now slots) (self .held) ⌝ }
@@ -199,9 +223,11 @@ impl Walk {
         let lent_seconds = seconds;
         let lent_steps = steps;
         let start = self.goal;
-        let Goal::Affirms(k, f) = start else {
+        let Goal::Affirms(given, affirmed) = start else {
             return self.refused(13);
         };
+        let mut k = given;
+        let mut f = affirmed;
         let mut walk = Walk {
             goal: Goal::Affirms(k, f),
             next: self.next,
@@ -215,73 +241,91 @@ impl Walk {
             place: self.next,
         };
         loop {
+            let here = walk.goal;
             let next = walk.next;
             let held = walk.held;
             if steps.len() <= next {
                 return walk.refused(9);
             }
-            match open_affirmation(heads, seconds, slots, walk.depth, k, f, steps[next]) {
+            let word = steps[next];
+            let premises = open_affirmation(heads, seconds, slots, walk.depth, k, f, word);
+            match premises {
                 Premises::Refused(number) => {
                     return walk.refused(number);
                 }
-                Premises::Closed => {
+                _ => {}
+            }
+            match premise_count(upper(word)) {
+                // It closes.
+                0 => {
                     return walk.proved(slots, next + 1, self.depth, self.held);
                 }
-                // Rule 1.
-                Premises::Truth(a) => {
-                    premise = walk.onward(Goal::True(a), next + 1, held);
-                    walked = premise.truth(lent_heads, lent_seconds, lent_steps, slots);
+                // It goes on with its one premise.
+                1 => {
+                    let last = last_premise(premises, here);
+                    let goal = last.goal;
+                    let added = last.added;
+                    let more = hold_added(slots, held, added);
+                    match goal {
+                        Goal::Affirms(l, a) => {
+                            k = l;
+                            f = a;
+                            walk = walk.onward(Goal::Affirms(l, a), next + 1, more);
+                        }
+                        // Rule 1: a truth.
+                        Goal::True(_) => {
+                            premise = walk.onward(goal, next + 1, more);
+                            walked = premise.truth(lent_heads, lent_seconds, lent_steps, slots);
+                            match walked {
+                                Walked::Refused { number, place } => {
+                                    return Walked::Refused { number, place };
+                                }
+                                Walked::Done(after) => {
+                                    return premise.proved(slots, after.next, self.depth, self.held);
+                                }
+                            }
+                        }
+                    }
+                }
+                // "All of its first premise, then its second." (01)
+                _ => {
+                    let first = first_premise(premises, here);
+                    let goal = first.goal;
+                    let added = first.added;
+                    let more = hold_added(slots, held, added);
+                    premise = walk.onward(goal, next + 1, more);
+                    match goal {
+                        // Rule 3: the first premise is always a truth.
+                        Goal::True(_) => {
+                            walked = premise.truth(lent_heads, lent_seconds, lent_steps, slots);
+                        }
+                        Goal::Affirms(_, _) => {
+                            walked = premise.affirmation(
+                                lent_heads,
+                                lent_seconds,
+                                lent_steps,
+                                slots,
+                            );
+                        }
+                    }
                     match walked {
                         Walked::Refused { number, place } => {
                             return Walked::Refused { number, place };
                         }
                         Walked::Done(after) => {
-                            return walk.proved(slots, after.next, self.depth, self.held);
+                            let last = last_premise(premises, here);
+                            let goal = last.goal;
+                            // Where an affirmation has two premises, the last is an affirmation.
+                            let Goal::Affirms(l, a) = goal else {
+                                return walk.refused(13);
+                            };
+                            let added = last.added;
+                            let more = hold_last(slots, held, more, added);
+                            k = l;
+                            f = a;
+                            walk = walk.onward(Goal::Affirms(l, a), after.next, more);
                         }
                     }
-                }
-                Premises::With(a) => {
-                    let more = hold(slots, held, a);
-                    walk = walk.onward(Goal::Affirms(k, f), next + 1, more);
-                }
-                Premises::WithBoth(a, b) => {
-                    let one = hold(slots, held, a);
-                    let more = hold(slots, one, b);
-                    walk = walk.onward(Goal::Affirms(k, f), next + 1, more);
-                }
-                // Rule 3: the first premise is always a truth.
-                Premises::TruthThenWith(a, b) => {
-                    premise = walk.onward(Goal::True(a), next + 1, held);
-                    walked = premise.truth(lent_heads, lent_seconds, lent_steps, slots);
-                    match walked {
-                        Walked::Refused { number, place } => {
-                            return Walked::Refused { number, place };
-                        }
-                        Walked::Done(after) => {
-                            let more = hold(slots, held, b);
-                            walk = walk.onward(Goal::Affirms(k, f), after.next, more);
-                        }
-                    }
-                }
-                Premises::WithEither(a, b) => {
-                    let first = hold(slots, held, a);
-                    premise = walk.onward(Goal::Affirms(k, f), next + 1, first);
-                    walked = premise.affirmation(lent_heads, lent_seconds, lent_steps, slots);
-                    match walked {
-                        Walked::Refused { number, place } => {
-                            return Walked::Refused { number, place };
-                        }
-                        Walked::Done(after) => {
-                            release(slots, held, first);
-                            let more = hold(slots, held, b);
-                            walk = walk.onward(Goal::Affirms(k, f), after.next, more);
-                        }
-                    }
-                }
-                Premises::TruthWith(_, _)
-                | Premises::BothTruths(_, _)
-                | Premises::Affirmation(_, _) => {
-                    return walk.refused(13);
                 }
             }
         }

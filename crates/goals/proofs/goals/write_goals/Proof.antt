@@ -9,14 +9,14 @@ use Rattle.basics.proofs.list.put.Reads as put-reads
 use Rattle.basics.proofs.word.lower.Reads as lower-reads
 use Rattle.basics.proofs.word.upper.Reads as upper-reads
 use Rattle.table.specs.Tests.{entries}
-use Rattle.rules.specs.Premises.{opened}
+use Rattle.premises.proofs.premise_count.premise_count.Reads as premise-count-reads
+use Rattle.premises.proofs.premises.first_premise.Reads as first-premise-reads
+use Rattle.premises.proofs.premises.last_premise.Reads as last-premise-reads
 use Rattle.rules.proofs.step.apply.Reads as apply-reads
 use Rattle.goals.proofs.Written.{Reached, Turned, reached-none, reached-lengths, steps-end, turned, turned-lengths, ends-refused, ends-closed, ends-full, goes-back, goes-on, goes-down}
 use Rattle.goals.proofs.kept.goal_at.Reads as goal-at-reads
-use Rattle.goals.proofs.goals.first_goal.Reads as first-goal-reads
 use Rattle.goals.proofs.goals.is_refused.Reads as is-refused-reads
-use Rattle.goals.proofs.goals.last_goal.Reads as last-goal-reads
-use Rattle.goals.proofs.goals.premise_count.Reads as premise-count-reads
+use Rattle.goals.proofs.goals.keep.Reads as keep-reads
 use Rattle.goals.proofs.goals.write_goals.Statement.{statement}
 use Rattle.goals.proofs.goals.write_goals.Tie as tie
 use Rattle.goals.proofs.goals.write_goals.Reads as reads
@@ -41,10 +41,10 @@ Applied =
     lts.After-is-refused (
       put-reads.Asked,
       put-reads.Learnt,
-      goal-at-reads.Asked,
-      goal-at-reads.Learnt,
       upper-reads.Asked,
       upper-reads.Learnt,
+      goal-at-reads.Asked,
+      goal-at-reads.Learnt,
       lower-reads.Asked,
       lower-reads.Learnt,
       apply-reads.Asked,
@@ -53,29 +53,31 @@ Applied =
       is-refused-reads.Learnt,
       premise-count-reads.Asked,
       premise-count-reads.Learnt,
-      last-goal-reads.Asked,
-      last-goal-reads.Learnt,
-      first-goal-reads.Asked,
-      first-goal-reads.Learnt,
+      first-premise-reads.Asked,
+      first-premise-reads.Learnt,
+      last-premise-reads.Asked,
+      last-premise-reads.Learnt,
+      keep-reads.Asked,
+      keep-reads.Learnt,
     ) reads.Pre reads.Post Inv-loop μ-loop
 
 turned-at : (t : Applied)
-    → let g = t .before .before .before .before in
-    let b = g .before .before .before .before in
+    → let g = t .before .before .before in
+    let b = g .before .before .before .before .before in
     let n = b .before .before .before .before in
     let s = n .before .before .before in
     let a = s .before .before .before .before .before .before .args in
     let l = s .loop in
     Turned (entries (a .heads .now) (a .seconds .now)) (a .steps .now) (a .goal) (a .numbers .now) (a .affirms .now)
     (n .put .last .0) (b .put2 .last .0) (l .waiting-numbers) (l .waiting-affirms) (l .waiting) (l .number) (l .i)
-    (opened (g .goal-at .result) (t .before .apply .result))
+    (g .before .upper .result) (g .goal-at .result) (t .before .apply .result)
 turned-at t =
-    let g = t .before .before .before .before in
-    let b = g .before .before .before .before in
+    let g = t .before .before .before in
+    let b = g .before .before .before .before .before in
     let n = b .before .before .before .before in
     let s = n .before .before in
     turned (s .before .loop .inv) (s .loop-test .taken) (n .put .ensures) (b .put2 .ensures) (g .goal-at .ensures)
-    (t .before .before .before .upper .ensures) (t .before .before .lower .ensures) (t .before .apply .ensures)
+    (g .before .upper .ensures) (t .before .before .lower .ensures) (t .before .apply .ensures)
 
 -- refused
 same-length : tie.Need-same-length Inv-loop μ-loop
@@ -98,20 +100,22 @@ returns-2 : tie.Need-returns-2 Inv-loop μ-loop
 returns-2 c =
     let p = c .before .before in
     let e = p .before in
-    ends-closed (turned-at (e .before)) (e .before .is-refused .ensures _) (e .if1 .left) (p .premise-count .ensures _)
+    ends-closed (turned-at (e .before)) (e .before .is-refused .ensures _) (e .if1 .left) (p .premise-count .ensures)
     (c .before .if2 .taken) (c .if3 .taken)
 
 -- two premises, and no room
 same-length-5 : tie.Need-same-length-5 Inv-loop μ-loop
-same-length-5 c = turned-lengths (turned-at (c .before .before .before .before .before)) .0
+same-length-5 c = turned-lengths (turned-at (c .before .before .before .before .before .before .before)) .0
 
 same-length-6 : tie.Need-same-length-6 Inv-loop μ-loop
-same-length-6 c = turned-lengths (turned-at (c .before .before .before .before .before)) .1
+same-length-6 c = turned-lengths (turned-at (c .before .before .before .before .before .before .before)) .1
 
 returns-3 : tie.Need-returns-3 Inv-loop μ-loop
 returns-3 c =
-    let p = c .before .before .before in
-    ends-full (turned-at (p .before .before)) (p .premise-count .ensures _) (c .before .if4 .taken) (c .if5 .taken)
+    let p = c .before .before .before .before .before in
+    let e = p .before in
+    ends-full (turned-at (e .before)) (e .before .is-refused .ensures _) (e .if1 .left) (p .premise-count .ensures)
+    (c .before .if4 .taken) (c .if5 .taken)
 
 -- the next turn
 loop-again : tie.Need-loop-again Inv-loop μ-loop
@@ -120,18 +124,21 @@ loop-again c =
     let e = p .before in
     let t = turned-at (e .before) in
     let refused-is = e .before .is-refused .ensures _ in
-    let count-is = p .premise-count .ensures _ in
+    let taken = e .if1 .left in
+    let count-is = p .premise-count .ensures in
     ⊎-elim
+    (λ w. rw (w .2, w .3, w .4, w .5, w .6) (goes-back t refused-is taken count-is (w .0 .taken) (w .1 .left)))
     (λ w.
-    rw (w .2, w .3, w .4, w .5, w .6)
-    (goes-back t refused-is (e .if1 .left) count-is (w .0 .taken) (w .1 .left)))
-    (λ w.
-    rw (w .3, w .4, w .5, w .6, w .7)
+    rw (w .5, w .6, w .7, w .8, w .9)
     (⊎-elim
     (λ v.
-    rw (v .3, v .4, v .5) (goes-down t count-is (v .0 .taken) (v .1 .left) (w .2 .ensures) (v .2 .ensures)))
-    (λ v. rw (v .1, v .2, v .3) (goes-on t count-is (w .0 .left) (v .0 .left) (w .2 .ensures)))
-    (w .1 .came)))
+    rw (v .3, v .4, v .5)
+    (goes-down t refused-is taken count-is (v .0 .taken) (v .1 .left) (w .1 .ensures) (w .4 .ensures) (w .2 .ensures)
+    (v .2 .ensures)))
+    (λ v.
+    rw (v .1, v .2, v .3)
+    (goes-on t refused-is taken count-is (w .0 .left) (v .0 .left) (w .1 .ensures) (w .4 .ensures)))
+    (w .3 .came)))
     (c .if2 .came)
 
 -- ---- after the last step
@@ -145,6 +152,7 @@ same-length-8 c = reached-lengths (c .before .loop .inv) .1
 returns-4 : tie.Need-returns-4 Inv-loop μ-loop
 returns-4 c = steps-end (c .before .loop .inv) (c .loop-test .left)
 
+-- From where the last premise is put among those that wait, a search doesn't reach the invariant: it is given `few`.
 pub write-goals-spec : {M : Type 1} → statement M
 write-goals-spec =
     tie.close
@@ -173,15 +181,17 @@ write-goals-spec =
     (λ c. search needs)
     (λ c. search needs)
     (λ c. search needs)
+    (λ c κs. tt)
+    (λ c κs. tt)
     same-length-5
     same-length-6
     returns-3
     (λ c κs. tt)
-    (λ c. search needs)
-    (λ c. search needs)
-    (λ c. search needs)
-    (λ c. search needs)
-    (λ c. search needs)
+    (λ c. search (needs, turned-at (c .before .before .before .before .before .before .before .before) .few))
+    (λ c. search (needs, turned-at (c .before .before .before .before .before .before .before .before) .few))
+    (λ c. search (needs, turned-at (c .before .before .before .before .before .before .before .before) .few))
+    (λ c. search (needs, turned-at (c .before .before .before .before .before .before .before .before) .few))
+    (λ c. search (needs, turned-at (c .before .before .before .before .before .before .before .before) .few))
     (λ c κs. tt)
     (λ c. search needs)
     (λ c. search needs)
