@@ -3,6 +3,7 @@
 -- every release. `Call` is any call of `write_sentences`. Assumes nothing.
 use Rattle.record.specs.Carries.{SignersCarry}
 use Rattle.record.specs.Former.{FormerSignersSpelled, FormerEight, ArchiveKept, FormerSamples}
+use Rattle.steps.specs.Figure1.{PremisesCounted, PremisesOfDerivation}
 use Rattle.line.specs.Printed.{OneLine, LineOfGrant}
 use Rattle.sentences.specs.Promises.{TextOfDerivation, LinePerStep, SameLines, SameText}
 use Rattle.sentences.specs.Feeds.{FeedPerLine}
@@ -58,3 +59,7 @@ pub record Requests : Type 0 where
   pub former-signers-spelled : FormerSignersSpelled
   pub former-eight : FormerEight
   pub former-samples : FormerSamples
+  -- Job 4. "How many premises a step opens .. the number of premises that stand there": of each step that isn't
+  -- refused, and of each derivation in Figure 1.
+  pub premises-counted : PremisesCounted
+  pub premises-of-derivation : PremisesOfDerivation
