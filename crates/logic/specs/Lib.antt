@@ -5,7 +5,6 @@ pub mod Judgment
 pub mod Principals
 pub mod Derivation
 pub mod Depth
-pub mod Subderivations
 pub mod Named
 pub mod Structural
 pub mod OneStep

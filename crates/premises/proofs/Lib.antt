@@ -1,3 +1,2 @@
--- The laws that proofs of this crate, of the rules, of the walk and of the goals cite. Assumes nothing.
-pub mod Past
+-- The laws that the proofs of the walk and of the goals cite. Assumes nothing.
 pub mod Counts

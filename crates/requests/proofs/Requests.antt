@@ -2,7 +2,7 @@
 use Rattle.record.proofs.Carries.{signers-carry}
 use Rattle.record.proofs.Former.{archive-kept, former-signers-spelled, former-eight}
 use Rattle.record.proofs.Samples.{former-samples}
-use Rattle.steps.proofs.Figure1.{premises-counted, premises-of-derivation}
+use Rattle.steps.proofs.Figure1.{count-per-rule, premises-counted, premises-of-derivation}
 use Rattle.line.proofs.Printed.{one-line, line-of-grant}
 use Rattle.sentences.proofs.Text.{text-of-derivation, line-per-step, same-lines, same-text}
 use Rattle.sentences.proofs.Feeds.{feed-per-line}
@@ -44,6 +44,7 @@ requests = record {
   former-signers-spelled = former-signers-spelled;
   former-eight = former-eight;
   former-samples = former-samples;
+  count-per-rule = count-per-rule;
   premises-counted = premises-counted;
   premises-of-derivation = premises-of-derivation;
 }

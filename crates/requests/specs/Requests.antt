@@ -3,7 +3,7 @@
 -- every release. `Call` is any call of `write_sentences`. Assumes nothing.
 use Rattle.record.specs.Carries.{SignersCarry}
 use Rattle.record.specs.Former.{FormerSignersSpelled, FormerEight, ArchiveKept, FormerSamples}
-use Rattle.steps.specs.Figure1.{PremisesCounted, PremisesOfDerivation}
+use Rattle.steps.specs.Figure1.{CountPerRule, PremisesCounted, PremisesOfDerivation}
 use Rattle.line.specs.Printed.{OneLine, LineOfGrant}
 use Rattle.sentences.specs.Promises.{TextOfDerivation, LinePerStep, SameLines, SameText}
 use Rattle.sentences.specs.Feeds.{FeedPerLine}
@@ -61,5 +61,6 @@ pub record Requests : Type 0 where
   pub former-samples : FormerSamples
   -- Job 4. "How many premises a step opens .. the number of premises that stand there": of each step that isn't
   -- refused, and of each derivation in Figure 1.
+  pub count-per-rule : CountPerRule
   pub premises-counted : PremisesCounted
   pub premises-of-derivation : PremisesOfDerivation

@@ -23,7 +23,7 @@ use Rattle.steps.specs.Figure1 as Figure1
 use Rattle.steps.specs.Figure1.{same}
 use Rattle.hypotheses.specs.Slots.{isHeld, shown}
 use Rattle.hypotheses.proofs.Shown.{shows-shown}
-use Rattle.premises.proofs.Past.{NoneBelow, past}
+use Rattle.basics.proofs.Past.{NoneBelow, past}
 use Rattle.rules.specs.Tested.{tested, TestedIsApplied}
 
 -- A number has an entry where both arrays have a word.

@@ -17,7 +17,7 @@ use Rattle.steps.specs.Carried.{judgment}
 use Rattle.steps.specs.Figure1.{same}
 use Rattle.steps.specs.Naming.{namings, isNaming}
 use Rattle.steps.proofs.Naming.{naming-is-named}
-use Rattle.premises.proofs.Past.{NoneBelow, past}
+use Rattle.basics.proofs.Past.{NoneBelow, past}
 use Rattle.goals.specs.Kept.{lineAt}
 use Rattle.sentences.specs.Formula.{propositionText, goalText}
 use Rattle.sentences.specs.Sentences.{ruleName, namedText, lineText}

@@ -4,7 +4,7 @@ use mathlib.Core.Path.{_≡_, sym, ap}
 use mathlib.Core.List.{List, []}
 use lib.ListN.{List·getD-eq-default}
 use Rattle.text.specs.Ascii.{ascii}
-use Rattle.premises.proofs.Past.{NoneBelow, past}
+use Rattle.basics.proofs.Past.{NoneBelow, past}
 use Rattle.sentences.specs.Sentences.{ruleNames, ruleName}
 use Rattle.formula_write.proofs.Filled.{Filled, filled-as, filled-none}
 

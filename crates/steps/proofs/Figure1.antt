@@ -12,7 +12,7 @@ use Rattle.table.specs.Tests.{entries, tableTests}
 use Rattle.table.proofs.Entries.{length-entries-equal}
 use Rattle.table.proofs.Passed.{passed-is-good}
 use Rattle.steps.specs.Runs.{Decides}
-use Rattle.steps.specs.Figure1.{same, ClosedUsesAll, HypothesesAreASet, RefusedInRange, RefusedWhere, RunsAreDerivations, TraceIsDerivations, LinePerWord, LinesByWord, PremisesCounted, PremisesOfDerivation, NamedOnTrace}
+use Rattle.steps.specs.Figure1.{same, ClosedUsesAll, HypothesesAreASet, RefusedInRange, RefusedWhere, RunsAreDerivations, TraceIsDerivations, LinePerWord, LinesByWord, CountPerRule, PremisesCounted, PremisesOfDerivation, NamedOnTrace}
 use Rattle.steps.proofs.Has as Table
 use Rattle.steps.proofs.Closed as Closed
 use Rattle.steps.proofs.Alike as Alike
@@ -63,6 +63,9 @@ line-per-word = AnyTrace.line-per-word same mostDepth
 
 pub lines-by-word : LinesByWord
 lines-by-word = ByWord.lines-by-word same mostDepth
+
+pub count-per-rule : CountPerRule
+count-per-rule = AnyCounts.count-per-rule same
 
 pub premises-counted : PremisesCounted
 premises-counted = AnyCounts.premises-counted same

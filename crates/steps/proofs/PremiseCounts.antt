@@ -3,7 +3,7 @@
 use Prim.Native.Nat.{ℕ}
 use mathlib.Core.Bool.{Bool}
 use mathlib.Core.Path.{_≡_, refl, sym, ap}
-use mathlib.Core.Option.{none, some, Option·none-ne-some}
+use mathlib.Core.Option.{some, Option·none-ne-some}
 use mathlib.Core.List.{List, [], _∷_, _++_, append-nil}
 use lib.ListN.{length, getD, getElem?}
 use lib.Dec.{eqb, ltb, leb}
@@ -23,7 +23,7 @@ use Rattle.steps.specs.Obligation.{Obligation, adding}
 use Rattle.steps.specs.Step.{Rule, names, plain, unknown, rules, applied, opens, step}
 use Rattle.steps.specs.Steps.{premises}
 use Rattle.steps.specs.Trace.{Line, lines}
-use Rattle.steps.specs.PremiseCounts.{premiseCounts, PremisesCounted, linesOfAll, PremisesOfDerivation}
+use Rattle.steps.specs.PremiseCounts.{premiseCounts, CountPerRule, PremisesCounted, linesOfAll, PremisesOfDerivation}
 use Rattle.steps.proofs.Cases.{OfPremises, truth-cases, affirmation-cases, served-cases, atom-cases, false-cases, implies-cases, and-cases, or-cases, says-cases, Each, _then_, getD-cases}
 
 -- ---- the twelve rules
@@ -88,6 +88,9 @@ of-these P (Refused m) h ps e = absurd (Option·none-ne-some ps e)
 of-these P Closed h ps e = let same : [] ≡ ps = cc in rw (← same) h
 of-these P (One a) h ps e = let same : a ∷ [] ≡ ps = cc in rw (← same) h
 of-these P (Two a b) h ps e = let same : a ∷ b ∷ [] ≡ ps = cc in rw (← same) h
+
+pub count-per-rule : (speaks : ℕ → ℕ → Bool) → CountPerRule speaks
+count-per-rule speaks es = refl
 
 pub premises-counted : (speaks : ℕ → ℕ → Bool) → PremisesCounted speaks
 premises-counted speaks limit es w o =

@@ -108,7 +108,10 @@ LinesByWord =
     → (o : Obligation) × (rest : List Obligation) × LeftToProve es (take i ws) os (o ∷ rest)
     × (getElem? (trace es ws os) i ≡ some (lineOf same es (getD ws i 0) o))
 
--- A step opens as many premises as the row of its code has,
+-- There is a count of premises for each rule, a step opens as many as the row of its code has,
+abbrev pub CountPerRule : Type 0
+CountPerRule = AnyCounts.CountPerRule same
+
 abbrev pub PremisesCounted : Type 0
 PremisesCounted = AnyCounts.PremisesCounted same
 

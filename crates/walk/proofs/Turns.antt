@@ -8,11 +8,8 @@ use Rattle.table.specs.declared.entry.Entry.{Entry}
 use Rattle.steps.specs.declared.goal.Goal.{Goal}
 use Rattle.steps.specs.declared.goal.Goal.the-variants.{True, Affirms}
 use Rattle.steps.specs.declared.opened.Premise.{Premise}
-use Rattle.steps.specs.Obligation.{Obligation, alone, adding}
+use Rattle.steps.specs.Obligation.{alone, adding}
 use Rattle.steps.specs.Applies.{Applies, init, affirm, implies-right, implies-left, false-left, and-right, and-left, or-right-first, or-right-second, or-left, says-right, says-left}
-use Rattle.steps.specs.Step.{step}
-use Rattle.steps.proofs.Cases.{OfPremises, of-premises}
-use Rattle.steps.proofs.Steps.{step-takes}
 use Rattle.walk.specs.Walks.{IsTruth, IsAffirmation}
 
 abbrev pub Turns : Goal → List Premise → Type 0
@@ -31,7 +28,7 @@ goal-twice (True f) a b = (tt, tt)
 goal-twice (Affirms k f) a b = tt
 
 module _ {speaks : ℕ → ℕ → Bool} {es : List Entry} {hs : List ℕ} where
-  turns : {c n : ℕ} {g : Goal} {ps : List Premise} → Applies speaks es hs c n g ps → Turns g ps
+  pub turns : {c n : ℕ} {g : Goal} {ps : List Premise} → Applies speaks es hs c n g ps → Turns g ps
   turns (init m e) = tt
   turns affirm = tt
   turns (implies-right e) = tt
@@ -44,9 +41,3 @@ module _ {speaks : ℕ → ℕ → Bool} {es : List Entry} {hs : List ℕ} where
   turns {g = g} (or-left {a = a} {b = b} m e) = goal-twice g a b
   turns (says-right e) = tt
   turns (says-left m e s) = tt
-
--- So it is with every step.
-pub step-turns : (speaks : ℕ → ℕ → Bool) (es : List Entry) (limit w : ℕ) (o : Obligation)
-    → OfPremises (Turns (o .goal)) (step speaks es limit w o)
-step-turns speaks es limit w o =
-    of-premises _ _ (step speaks es limit w o) (λ ps takes. turns (takes .applies)) (step-takes speaks limit es w o)

@@ -1,22 +1,18 @@
 -- Laws of the walk: the machine's run from entry is the run from here, and what was held since can be taken back. In
 -- order: what is held since; what the slots show; the run from here; how many premises; premises; a call for a premise;
--- depth; turns; the end. Assumes nothing.
+-- depth and turns; the end. Assumes nothing.
 use Prim.Native.Nat.{ℕ, suc, _+_, _<_, _≤_}
 use native.Mathlib.Omega.{arith}
 use native.Mathlib.Numerals.{add-one}
 use mathlib.Core.Path.{_≡_, refl, sym, ap, ap₂, _∙_, subst}
-use mathlib.Core.List.{List, [], _∷_, _++_, append-nil, map}
+use mathlib.Core.List.{List, [], _∷_, _++_, map}
 use lib.ListN.{length, getD}
-use lib.Seq.{append-snoc}
 use Rattle.basics.specs.Limits.{mostDepth}
 use Rattle.basics.specs.Word.{upper}
 use Rattle.basics.specs.Membership.{holds}
 use Rattle.basics.proofs.Membership.{holds-append}
 use Rattle.table.specs.declared.entry.Entry.{Entry}
-use Rattle.table.specs.declared.entry.Formula.{Formula}
-use Rattle.table.specs.declared.entry.Principal.{Principal}
 use Rattle.steps.specs.declared.goal.Goal.{Goal}
-use Rattle.steps.specs.declared.goal.Goal.the-variants.{Affirms}
 use Rattle.steps.specs.declared.opened.Premise.{Premise}
 use Rattle.steps.specs.declared.opened.Opened.{Opened}
 use Rattle.steps.specs.declared.opened.Opened.the-variants as Opening
@@ -41,7 +37,7 @@ use Rattle.hypotheses.proofs.Held.{shown-all}
 use Rattle.premises.specs.declared.premises.Premises.{Premises}
 use Rattle.premises.specs.Premises.{opened, firstOf, lastOf}
 use Rattle.premises.proofs.Counts.{Taken, none-opened, one-opened, two-opened}
-use Rattle.walk.proofs.Turns.{Turns, step-turns}
+use Rattle.walk.proofs.Turns.{Turns, turns}
 use Rattle.walk.specs.declared.walk.Walk.{Walk}
 use Rattle.walk.specs.declared.walk.Walked.{Walked}
 use Rattle.walk.specs.declared.walk.Walked.the-variants.{Done, Refused}
@@ -286,29 +282,23 @@ module _ {es : List Entry} {steps before slots : List ℕ} {w₀ w : Walk} (on :
         → runFrom es steps before w₀ ≡ premiseFrom es steps slots w (v .next) q
     first-proved e call is = two e ∙ rw (← call, is)
 
-    -- ---- depth
+    -- ---- depth and turns
+
+    -- The step is one of 01's rows, at a depth within the limit.
+    takes-here : {y : Opened} → opened (w .goal) x ≡ y
+        → OfPremises (Takes same es mostDepth (getD steps (w .next) 0) (obligationOf w slots)) y
+    takes-here e = rw (← e, here .opens) (step-takes same mostDepth es (getD steps (w .next) 0) (obligationOf w slots))
 
     -- "10. The step's depth is above 512": where there is a premise, it is not.
     pub deep-one : {p : Premise} → opened (w .goal) x ≡ Opening.One p → w .depth ≤ mostDepth
-    deep-one {p} e =
-        let takes : OfPremises (Takes same es mostDepth _ _) (Opening.One p) = rw (← here .opens, e) at
-        (step-takes same mostDepth es (getD steps (w .next) 0) (obligationOf w slots)) in
-        takes .fits
+    deep-one e = takes-here e .fits
 
     pub deep-two : {p q : Premise} → opened (w .goal) x ≡ Opening.Two p q → w .depth ≤ mostDepth
-    deep-two {p} {q} e =
-        let takes : OfPremises (Takes same es mostDepth _ _) (Opening.Two p q) = rw (← here .opens, e) at
-        (step-takes same mostDepth es (getD steps (w .next) 0) (obligationOf w slots)) in
-        takes .fits
-
-    -- ---- turns
+    deep-two e = takes-here e .fits
 
     -- Of two premises, which are truths.
     pub turns-here : {p q : Premise} → opened (w .goal) x ≡ Opening.Two p q → Turns (w .goal) (p ∷ q ∷ [])
-    turns-here {p} {q} e =
-        let turns : OfPremises (Turns (w .goal)) (Opening.Two p q) = rw (← here .opens, e) at
-        (step-turns same es mostDepth (getD steps (w .next) 0) (obligationOf w slots)) in
-        turns
+    turns-here e = turns (takes-here e .applies)
 
 -- The goal is proved: what was held since is taken back.
 pub done : (es : List Entry) (steps before : List ℕ) (w₀ : Walk) {slots after : List ℕ} {n held : ℕ} {g : Goal}

@@ -57,8 +57,7 @@ pub record Ready (es : List Entry) (slots : List ℕ) (held : ℕ) : Type 0 wher
   pub live : Live slots held
 
 -- A walk that is done hands back its depth and its count of hypotheses, and what it held is taken back. Free is the
--- goal that it hands back, which is that of its last step, and the places past the count; after a refusal all of the
--- slots.
+-- goal that it hands back, and the places past the count; after a refusal all of the slots.
 abbrev pub Left : Walk → List ℕ → Walked → List ℕ → Type 0
 Left w slots (Done v) after = (v .depth ≡ w .depth) × (v .held ≡ w .held) × Kept (w .held) slots after
 Left w slots (Refused number place) after = Unit

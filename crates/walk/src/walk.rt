@@ -35,8 +35,8 @@ fn hold_added(slots: &mut [u16], held: usize, added: Added) -> usize
     }
 }
 
-// Once the first premise is proved, takes back what it added, from `held` hypotheses to `more`, and holds what the last
-// adds: no "carrying an added one into the second premise" (01). Answers how many there are then.
+// Once the first premise is proved, takes back what it added, at the places from `held` to before `more`, and holds what
+// the last adds: no "carrying an added one into the second premise" (01). Answers how many hypotheses there are then.
 fn hold_last(slots: &mut [u16], held: usize, more: usize, added: Added) -> usize
     ensures { λ r. ⌜ r ≡ countAll (released (now (slots .entry)) held more) held (added-by added) ⌝ }
     ensures { λ _. ⌜ now (slots .exit) ≡ heldAll (released (now (slots .entry)) held more) held (added-by added) ⌝ }
@@ -184,11 +184,12 @@ impl Walk {
                 }
                 // "All of its first premise, then its second." (01)
                 _ => {
+                    // Where a truth has two premises, both are truths.
                     let first = first_premise(premises, here);
-                    let goal = first.goal;
-                    let added = first.added;
-                    let more = hold_added(slots, held, added);
-                    premise = walk.onward(goal, next + 1, more);
+                    let first_goal = first.goal;
+                    let first_added = first.added;
+                    let with_first = hold_added(slots, held, first_added);
+                    premise = walk.onward(first_goal, next + 1, with_first);
                     walked = premise.truth(lent_heads, lent_seconds, lent_steps, slots);
                     match walked {
                         Walked::Refused { number, place } => {
@@ -196,15 +197,14 @@ impl Walk {
                         }
                         Walked::Done(after) => {
                             let last = last_premise(premises, here);
-                            let goal = last.goal;
-                            // Where a truth has two premises, both are truths.
-                            let Goal::True(a) = goal else {
+                            let last_goal = last.goal;
+                            let Goal::True(a) = last_goal else {
                                 return walk.refused(13);
                             };
-                            let added = last.added;
-                            let more = hold_last(slots, held, more, added);
+                            let last_added = last.added;
+                            let with_last = hold_last(slots, held, with_first, last_added);
                             f = a;
-                            walk = walk.onward(Goal::True(a), after.next, more);
+                            walk = walk.onward(Goal::True(a), after.next, with_last);
                         }
                     }
                 }
@@ -290,11 +290,11 @@ impl Walk {
                 // "All of its first premise, then its second." (01)
                 _ => {
                     let first = first_premise(premises, here);
-                    let goal = first.goal;
-                    let added = first.added;
-                    let more = hold_added(slots, held, added);
-                    premise = walk.onward(goal, next + 1, more);
-                    match goal {
+                    let first_goal = first.goal;
+                    let first_added = first.added;
+                    let with_first = hold_added(slots, held, first_added);
+                    premise = walk.onward(first_goal, next + 1, with_first);
+                    match first_goal {
                         // Rule 3: the first premise is always a truth.
                         Goal::True(_) => {
                             walked = premise.truth(lent_heads, lent_seconds, lent_steps, slots);
@@ -314,16 +314,16 @@ impl Walk {
                         }
                         Walked::Done(after) => {
                             let last = last_premise(premises, here);
-                            let goal = last.goal;
+                            let last_goal = last.goal;
                             // Where an affirmation has two premises, the last is an affirmation.
-                            let Goal::Affirms(l, a) = goal else {
+                            let Goal::Affirms(l, a) = last_goal else {
                                 return walk.refused(13);
                             };
-                            let added = last.added;
-                            let more = hold_last(slots, held, more, added);
+                            let last_added = last.added;
+                            let with_last = hold_last(slots, held, with_first, last_added);
                             k = l;
                             f = a;
-                            walk = walk.onward(Goal::Affirms(l, a), after.next, more);
+                            walk = walk.onward(Goal::Affirms(l, a), after.next, with_last);
                         }
                     }
                 }

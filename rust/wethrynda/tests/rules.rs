@@ -67,11 +67,13 @@ fn table(page: &str, heads: &[&str]) -> Vec<Row> {
     rows.map(|line| row(columns.iter().map(|&column| line[column]))).collect()
 }
 
-/// 01's rows as definitions quote them: "-- CODE | NAME | GOAL BELOW | NAMED HYPOTHESIS |
-/// PREMISES".
+/// 01's rows as definitions and code quote them: "-- CODE | NAME | GOAL BELOW | NAMED HYPOTHESIS |
+/// PREMISES", or "// ..".
 fn quoted(path: &str) -> Vec<Row> {
     let text = text(path);
-    let comments = text.lines().filter_map(|line| line.trim().strip_prefix("-- "));
+    let lines = text.lines().map(str::trim);
+    let comments =
+        lines.filter_map(|line| line.strip_prefix("-- ").or_else(|| line.strip_prefix("// ")));
     comments.map(|line| row(line.split('|'))).filter(|row| row[0].parse::<u16>().is_ok()).collect()
 }
 
@@ -118,9 +120,11 @@ fn rows_are_those_of_the_definitions() {
     let heads = ["code", "name", "goal below", "named hypothesis", "these, in order"];
     let rules = table("docs/FORMAT.md", &heads);
     assert_eq!(rules.len(), 12);
-    for path in ["logic/specs/Derivation", "steps/specs/Applies", "steps/specs/Rules"] {
-        assert_eq!(quoted(&format!("crates/{path}.antt")), rules, "{path}");
+    let definitions = ["logic/specs/Derivation", "steps/specs/Applies", "steps/specs/Rules"];
+    for path in definitions.map(|path| format!("crates/{path}.antt")) {
+        assert_eq!(quoted(&path), rules, "{path}");
     }
+    assert_eq!(quoted("crates/rules/src/rules.rt"), rules, "the code of the rules");
 }
 
 #[test]

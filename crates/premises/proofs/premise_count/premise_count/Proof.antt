@@ -4,7 +4,7 @@ use mathlib.Core.Path.{sym}
 use lib.ListN.{List·getD-eq-default}
 use borrow.Author.Needs.{needs}
 use Rattle.steps.specs.PremiseCounts.{premiseCounts}
-use Rattle.premises.proofs.Past.{past}
+use Rattle.basics.proofs.Past.{past}
 use Rattle.premises.proofs.premise_count.premise_count.Statement.{statement}
 use Rattle.premises.proofs.premise_count.premise_count.Tie as tie
 

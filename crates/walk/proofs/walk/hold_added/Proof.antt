@@ -1,5 +1,5 @@
 -- `hold_added` meets its contract: one formula after another is held. Assumes nothing.
-use mathlib.Core.Path.{refl, sym, _∙_}
+use mathlib.Core.Path.{refl}
 use borrow.Author.Needs.{needs}
 use Rattle.hypotheses.specs.Slots.{heldAll, countAll}
 use Rattle.walk.proofs.walk.hold_added.Statement.{statement}

@@ -516,5 +516,5 @@ affirmation-loop-again-2 t c =
     (first-proved (l .inv .2) (affirmation-here t o) (affirmation-both t q) (affirmation-first t m)
     (at-done .walked4 .given .1))
     (omega (arith, past)) back (at-hold .hold-last .ensures .0) (at-hold .hold-last .ensures .1)
-    (c .before .before .before .before .before .before .goal2 .given .1) (c .onward4 .ensures) in
+    (c .before .before .before .before .before .before .last-goal .given .1) (c .onward4 .ensures) in
     (on-length on, rw (c .onward4 .ensures), on)

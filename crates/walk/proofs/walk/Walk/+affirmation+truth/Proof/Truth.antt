@@ -435,5 +435,5 @@ truth-loop-again-2 t c =
     let on = goes-on (l .inv .2) (truth-here t o) (q .last-premise2 .result) _
     (first-proved (l .inv .2) (truth-here t o) (truth-both t q) (truth-first t r) (at-done .walked4 .given .1))
     (omega (arith, past)) back (at-hold .hold-last .ensures .0) (at-hold .hold-last .ensures .1)
-    (c .before .before .before .before .before .before .goal2 .given .1) (c .onward4 .ensures) in
+    (c .before .before .before .before .before .before .last-goal .given .1) (c .onward4 .ensures) in
     (on-length on, rw (c .onward4 .ensures), on)
