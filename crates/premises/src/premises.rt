@@ -55,7 +55,7 @@ pub fn first_premise(premises: Premises, goal: Goal) -> Premise
     }
 }
 
-// The last premise, which is the first where there is one.
+// The last premise: of two the second, else the first.
 pub fn last_premise(premises: Premises, goal: Goal) -> Premise
     ensures { λ r. ⌜ r ≡ lastOf goal (opened goal premises) ⌝ }
 {

@@ -67,9 +67,8 @@ module _ {R : Relation} where
   linesOfAll [] = []
   linesOfAll (D ∷ Ds) = lines (D .derivation) ++ linesOfAll Ds
 
--- So does a derivation have as many immediate subderivations as the row of its last rule has premises. The last rule,
--- the lowest in Figure 1, is the first step: its line comes first, and the lines of the subderivations, in order, are
--- the rest.
+-- A derivation has as many immediate subderivations as the row of its last rule has premises. The last rule, the lowest
+-- in Figure 1, is the first step: its line comes first, and the lines of the subderivations, in order, are the rest.
 abbrev pub PremisesOfDerivation : Relation → Type 0
 PremisesOfDerivation R =
     (Γ : List Proposition) (γ : Judgment) (D : Derivation R Γ γ)

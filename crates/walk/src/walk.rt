@@ -182,7 +182,7 @@ impl Walk {
                         }
                     }
                 }
-                // "All of its first premise, then its second." (01)
+                // "followed by all of its first premise, then its second" (01)
                 _ => {
                     // Where a truth has two premises, both are truths.
                     let first = first_premise(premises, here);
@@ -287,7 +287,7 @@ impl Walk {
                         }
                     }
                 }
-                // "All of its first premise, then its second." (01)
+                // "followed by all of its first premise, then its second" (01)
                 _ => {
                     let first = first_premise(premises, here);
                     let first_goal = first.goal;
