@@ -2,6 +2,7 @@
 -- test asks, Past what is past the cases of a match.
 pub mod Choice
 pub mod Membership
+pub mod Once
 pub mod Rising
 pub mod First
 pub mod Asked

@@ -3,6 +3,7 @@
 pub mod Limits
 pub mod Choice
 pub mod Membership
+pub mod Once
 pub mod Rising
 pub mod First
 pub mod Refusals

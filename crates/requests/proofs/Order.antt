@@ -1,15 +1,16 @@
 -- Job 1 (specs/Order.antt). In order: the signers rise; there is one such list, and one line; in any order there are as
 -- many. Assumes nothing.
-use Prim.Native.Nat.{ℕ, suc, _≤_}
+use Prim.Native.Nat.{ℕ}
 use native.Mathlib.Omega.{arith}
-use mathlib.Core.Path.{_≡_, refl, sym, ap, subst, _∙_}
-use mathlib.Core.Logic.{⊎-elim, Iff·symm, Iff·trans}
-use mathlib.Core.List.{List, [], _∷_, _++_, List·Memᴰ·head, List·Memᴰ·tail, List·Memᴰ·cases-cons, List·Memᴰ·not-nil, Memᴰ·cast}
+use mathlib.Core.Path.{_≡_, sym, ap, subst, _∙_}
+use mathlib.Core.Logic.{Iff·symm, Iff·trans}
+use mathlib.Core.List.{List, [], _∷_, _++_}
 use lib.ListN.{length, drop, take}
 use lib.Seq.{take-append-seam, take-all}
-use Rattle.basics.specs.Membership.{_∈_, _⊆_}
+use Rattle.basics.specs.Membership.{_⊆_}
+use Rattle.basics.specs.Once.{EachOnce}
 use Rattle.basics.specs.Rising.{Rising}
-use Rattle.basics.proofs.Membership.{first}
+use Rattle.basics.proofs.Once.{no-more}
 use Rattle.basics.proofs.Rising.{one-rising}
 use Rattle.signers.proofs.Each.{signers-are}
 use Rattle.signers.specs.Signers as S
@@ -24,7 +25,7 @@ use Rattle.line.specs.RecordLine.{listed, recordLine}
 use Rattle.demands.specs.Release.{Signers, GrantedWithSigners}
 use Rattle.demands.proofs.Release.{has-signers}
 use Rattle.demands.proofs.Demands.{demands}
-use Rattle.requests.specs.Order.{SignersRise, ReleaseGrants, OrderNotFree, OnePossibleLine, EachOnce, EachOnceIs, CountStays}
+use Rattle.requests.specs.Order.{SignersRise, ReleaseGrants, OrderNotFree, OnePossibleLine, CountStays}
 
 -- ---- the signers rise
 
@@ -77,48 +78,6 @@ one-possible-line file before after before′ after′ answer answer′ g h =
 
 -- ---- as many in any order
 
-not-among : {a b : ℕ} {ks : List ℕ} → ¬ (a ≡ b) → ¬ (a ∈ ks) → ¬ (a ∈ b ∷ ks)
-not-among other none m = ⊎-elim other none (List·Memᴰ·cases-cons m)
-
-pub each-once-is : EachOnceIs
-each-once-is = (
-  (
-    not-among (λ e. omega (arith, e)) (not-among (λ e. omega (arith, e)) List·Memᴰ·not-nil),
-    (not-among (λ e. omega (arith, e)) List·Memᴰ·not-nil, (List·Memᴰ·not-nil, tt)),
-  ),
-  λ e. e .0 (List·Memᴰ·tail first),
-)
-
--- js without one place at which k stands
-record Without (k : ℕ) (js : List ℕ) : Type 0 where
-  others : List ℕ
-  one-less : length js ≡ suc (length others)
-  keeps : (a : ℕ) → a ∈ js → ¬ (a ≡ k) → a ∈ others
-
--- A list that has k has such a rest,
-without : {k : ℕ} {js : List ℕ} → k ∈ js → Without k js
-without (List·Memᴰ·head {xs = xs} e) = record {
-  others = xs;
-  one-less = refl;
-  keeps = λ a m other. ⊎-elim (λ q. absurd (other (q ∙ sym e))) (λ i. i) (List·Memᴰ·cases-cons m);
-}
-without (List·Memᴰ·tail {x = x} i) =
-    let rest = without i in
-    record {
-      others = x ∷ rest .others;
-      one-less = ap suc (rest .one-less);
-      keeps = λ a m other. ⊎-elim List·Memᴰ·head (λ j. List·Memᴰ·tail (rest .keeps a j other)) (List·Memᴰ·cases-cons m);
-    }
-
--- and the others of ks all stand in it.
-no-more : (ks js : List ℕ) → EachOnce ks → ks ⊆ js → length ks ≤ length js
-no-more [] js once all = omega arith
-no-more (k ∷ ks) js (alone, once) all =
-    let rest = without (all k first) in
-    let among : ks ⊆ rest .others = λ a m. rest .keeps a (all a (List·Memᴰ·tail m))
-    (λ q. alone (Memᴰ·cast (sym q) m)) in
-    omega (arith, rest .one-less, no-more ks (rest .others) once among)
-
 -- In a rising list each stands once.
 rising-once : (ks : List ℕ) → Rising ks → EachOnce ks
 rising-once [] r = tt
@@ -131,7 +90,7 @@ count-stays es ns named ks each once =
     let from : S.signers es ns named ⊆ ks = λ K m. each K .1 (found .each K .0 m) in
     omega (
       arith,
-      no-more ks (S.signers es ns named) once to,
-      no-more (S.signers es ns named) ks
+      no-more ℕ ks (S.signers es ns named) once to,
+      no-more ℕ (S.signers es ns named) ks
           (rising-once (S.signers es ns named) (found .rising)) from,
     )

@@ -3,9 +3,10 @@
 use Prim.Native.Nat.{ℕ}
 use mathlib.Core.Path.{_≡_}
 use mathlib.Core.Logic.{_↔_}
-use mathlib.Core.List.{List, [], _∷_}
+use mathlib.Core.List.{List}
 use lib.ListN.{length, take}
 use Rattle.basics.specs.Membership.{_∈_}
+use Rattle.basics.specs.Once.{EachOnce}
 use Rattle.table.specs.declared.entry.Entry.{Entry}
 use Rattle.signers.specs.Signers.{signers}
 use Rattle.signers.specs.Each.{Signs}
@@ -44,13 +45,6 @@ OnePossibleLine =
 
 -- What stays: 01 asked for the signers "each once, in any order". In any order there are as many, so their order makes
 -- no other count for 8 and for a grant.
-abbrev pub EachOnce : List ℕ → Type 0
-EachOnce [] = Unit
-EachOnce (k ∷ ks) = (¬ (k ∈ ks)) × EachOnce ks
-
-abbrev pub EachOnceIs : Type 0
-EachOnceIs = EachOnce (8 ∷ 7 ∷ 9 ∷ []) × (¬ EachOnce (7 ∷ 8 ∷ 7 ∷ []))
-
 abbrev pub CountStays : Type 0
 CountStays =
     (es : List Entry) (statements named ks : List ℕ) → ((K : ℕ) → K ∈ ks ↔ Signs es statements named K) → EachOnce ks
