@@ -1,7 +1,8 @@
 -- The theorems whose statements are in specs/.
 pub mod Release
-pub mod ReleaseSamples
 pub mod OldReleases
+pub mod Demands
+pub mod Figure1
+pub mod ReleaseSamples
 pub mod Samples
 pub mod EachRule
-pub mod Demands

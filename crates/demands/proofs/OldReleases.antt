@@ -1,6 +1,7 @@
 -- Old releases keep their goals (specs/OldReleases.antt): a release has a derivation, and equal says that the lists are
 -- equal in force. Assumes nothing.
 use Prim.Native.Nat.{ℕ}
+use mathlib.Core.Bool.{Bool}
 use mathlib.Core.Path.{_≡_, refl, sym, subst}
 use mathlib.Core.Logic.{Iff·symm, _⊎_, inl, inr, ⊎-elim}
 use mathlib.Core.List.{List, [], _∷_, _++_, List·Memᴰ·head, List·Memᴰ·tail, List·Memᴰ·cases-cons, List·Memᴰ·not-nil, List·Memᴰ·append-cases}
@@ -8,8 +9,9 @@ use Rattle.basics.specs.Membership.{_∈_, _⊆_}
 use Rattle.basics.proofs.Membership.{⊆-left, ⊆-right}
 use Rattle.logic.specs.Proposition.{Proposition, atom, false, _implies_, _and_, _or_, _says_}
 use Rattle.logic.specs.Misreadings.{SignedBy, Anybody}
-use Rattle.logic.specs.Figure1.{HasProof}
-use Rattle.logic.proofs.Figure1.{figure1}
+use Rattle.logic.specs.Principals.{Relation, Reflexive, Transitive, Lawful}
+use Rattle.logic.specs.Force.{HasProof}
+use Rattle.logic.proofs.Promises.{for-every-relation}
 use Rattle.record.specs.Proof.{statedBy, goalOf}
 use Rattle.exchange.specs.Layout.{firstList, secondList}
 use Rattle.exchange.proofs.Equal.{equal-only-in-force}
@@ -17,18 +19,22 @@ use Rattle.demands.specs.Release.{Release}
 use Rattle.demands.specs.OldReleases.{spelledIn, KeptByForce, KeptByExchange, paper, papersOf, PapersAre, OrdersAmong, OrdersOfSamples, OldReleasesKept}
 
 -- A release has a proof of its goal from its statements.
-proved : (file : List ℕ) (room : ℕ) → Release file room → HasProof (statedBy file) (goalOf file)
-proved file room release = release .is-proof .derivation
+proved : (R : Relation) (file : List ℕ) (room : ℕ) → Release R file room → HasProof R (statedBy file) (goalOf file)
+proved R file room release = release .is-proof .derivation
 
-pub kept-by-force : KeptByForce
-kept-by-force old new papers force file room release among =
-    figure1 .any-release-kept old new papers (statedBy file) (goalOf file) force among (proved file room release)
+pub kept-by-force : (R : Relation) → Reflexive R → Transitive R → KeptByForce R
+kept-by-force R reflexive transitive old new papers force file room release among =
+    for-every-relation R reflexive transitive .any-release-kept old new papers (statedBy file) (goalOf file) force among
+    (proved R file room release)
 
-pub kept-by-exchange : KeptByExchange
-kept-by-exchange exchange equal papers file room release =
-    let force = equal-only-in-force exchange equal in (
-      kept-by-force (spelledIn exchange (firstList exchange)) (spelledIn exchange (secondList exchange)) papers force file room release,
-      kept-by-force (spelledIn exchange (secondList exchange)) (spelledIn exchange (firstList exchange)) papers (λ A. Iff·symm (force A)) file room release,
+pub kept-by-exchange : (speaks : ℕ → ℕ → Bool) (R : Relation) → Lawful speaks R → KeptByExchange speaks R
+kept-by-exchange speaks R lawful exchange equal papers file room release =
+    let force = equal-only-in-force speaks R lawful exchange equal in
+    let first = spelledIn exchange (firstList exchange) in
+    let second = spelledIn exchange (secondList exchange) in
+    let kept = kept-by-force R (lawful .reflexive) (lawful .transitive) in (
+      kept first second papers force file room release,
+      kept second first papers (λ A. Iff·symm (force A)) file room release,
     )
 
 -- A statement is a signed paper, or a standing order.
@@ -51,10 +57,10 @@ orders-and-papers : (statements orders : List Proposition) → OrdersAmong state
 orders-and-papers statements orders among A m =
     ⊎-elim (λ i. ⊆-right orders A (paper-among statements A m A i)) (λ unsigned. ⊆-left (papersOf statements) A (among A m unsigned)) (signed-or-not A)
 
-pub old-releases-kept : OldReleasesKept
-old-releases-kept exchange equal file room release =
+pub old-releases-kept : (speaks : ℕ → ℕ → Bool) (R : Relation) → Lawful speaks R → OldReleasesKept speaks R
+old-releases-kept speaks R lawful exchange equal file room release =
     let stated = statedBy file in
-    let (forth, back) = kept-by-exchange exchange equal (papersOf stated) file room release in (
+    let (forth, back) = kept-by-exchange speaks R lawful exchange equal (papersOf stated) file room release in (
       λ among. forth (orders-and-papers stated (spelledIn exchange (firstList exchange)) among),
       λ among. back (orders-and-papers stated (spelledIn exchange (secondList exchange)) among),
     )

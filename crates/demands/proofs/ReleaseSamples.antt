@@ -1,4 +1,4 @@
--- A's grant and C's refusal (specs/Release.antt). Assumes nothing.
+-- A's grant and C's refusal (specs/ReleaseSamples.antt). Assumes nothing.
 use Prim.Native.Nat.{ℕ}
 use mathlib.Core.Path.{_≡_, refl, sym, ap, subst, _∙_}
 use mathlib.Core.List.{List, [], _∷_, _++_, List·Memᴰ·head, List·Memᴰ·not-nil, List·Memᴰ·eq-of-singleton, Memᴰ·cast}
@@ -20,14 +20,13 @@ use Rattle.steps.specs.Naming.{isNaming, namedNumbers}
 use Rattle.signers.specs.Signers.{principals, used}
 use Rattle.record.specs.declared.verdict.RecordVerdict.the-variants.{Granted, Refused}
 use Rattle.record.specs.Layout.{signers}
-use Rattle.record.specs.Answer.{recordAnswer}
-use Rattle.record.specs.Proof.{statedBy, IsProof}
+use Rattle.record.specs.Answer as Any
+use Rattle.record.specs.Proof.{statedBy}
 use Rattle.record.specs.Carries.{Carries}
+use Rattle.record.specs.Figure1.{recordAnswer, IsProof}
 use Rattle.record.specs.Samples.{overT, bytesOfA}
-use Rattle.record.proofs.Granted.{granted-exactly}
-use Rattle.record.proofs.Carries.{signers-carry}
-use Rattle.record.proofs.Reasons.{refused-exactly}
-use Rattle.demands.specs.Release.{GrantOfA, RefusalOfC}
+use Rattle.record.proofs.Figure1.{granted-exactly, refused-exactly, signers-carry}
+use Rattle.demands.specs.ReleaseSamples.{GrantOfA, RefusalOfC}
 
 -- ---- A
 
@@ -37,7 +36,7 @@ stated-by-A = refl
 
 -- It is granted, so there is a proof, and 7 carries it;
 granted-A : recordAnswer bytesOfA 1 ≡ Granted 1
-unfolding recordAnswer fileWords firstRefusal wrongEntry repeatedEntry first-place into principals used namedNumbers
+unfolding Any.recordAnswer fileWords firstRefusal wrongEntry repeatedEntry first-place into principals used namedNumbers
     isNaming run walk step opens holds entries entry
 granted-A = refl
 
@@ -75,7 +74,7 @@ grant-of-a answer before after g =
 -- ---- C
 
 answer-to-C : recordAnswer (fileOf (overT (1 ∷ []) 0 (45057 ∷ []))) 1 ≡ Refused 14 0
-unfolding recordAnswer fileWords fileOf firstRefusal wrongEntry repeatedEntry first-place into principals used
+unfolding Any.recordAnswer fileWords fileOf firstRefusal wrongEntry repeatedEntry first-place into principals used
     namedNumbers isNaming run walk step opens holds entries entry
 answer-to-C = refl
 

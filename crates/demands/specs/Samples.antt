@@ -7,10 +7,10 @@ use mathlib.Core.List.{List, [], _∷_, map}
 use Rattle.text.specs.Ascii.{ascii}
 use Rattle.file.specs.Words.{fileOf}
 use Rattle.record.specs.Samples.{overT}
-use Rattle.exchange.specs.Answer.{exchangeAnswer}
+use Rattle.exchange.specs.Figure1.{exchangeAnswer}
 use Rattle.exchange.specs.Samples.{K}
 use Rattle.line.specs.ExchangeLine.{exchangeLine}
-use Rattle.line.specs.Printed.{printedLine}
+use Rattle.line.specs.Figure1.{printedLine}
 
 -- a sample by its words, and its line
 pub data File : Type 0 where

@@ -1,6 +1,7 @@
 -- The answer by what the tests come to. Assumes nothing.
 use Prim.Native.Nat.{ℕ}
 use native.Mathlib.Omega.{arith}
+use mathlib.Core.Bool.{Bool}
 use mathlib.Core.Path.{_≡_, refl, sym}
 use mathlib.Core.Logic.{_↔_}
 use mathlib.Core.List.{List}
@@ -25,11 +26,12 @@ refuses Outcome.Passed number p = (λ e. absurd (not-equal (sym e)), λ e. absur
 refuses (Outcome.Refused m q) number p = (λ e. cc, λ e. cc)
 
 -- So for a file.
-module _ (file : List ℕ) where
-  pub answer-equal : exchangeAnswer file ≡ Equal ↔ firstRefusal (tests file) ≡ Outcome.Passed
+module _ (speaks : ℕ → ℕ → Bool) (file : List ℕ) where
+  pub answer-equal : exchangeAnswer speaks file ≡ Equal ↔ firstRefusal (tests speaks file) ≡ Outcome.Passed
   unfolding exchangeAnswer
-  answer-equal = equals (firstRefusal (tests file))
+  answer-equal = equals (firstRefusal (tests speaks file))
 
-  pub answer-refused : (number p : ℕ) → exchangeAnswer file ≡ Refused number p ↔ firstRefusal (tests file) ≡ Outcome.Refused number p
+  pub answer-refused : (number p : ℕ) → exchangeAnswer speaks file ≡ Refused number p
+      ↔ firstRefusal (tests speaks file) ≡ Outcome.Refused number p
   unfolding exchangeAnswer
-  answer-refused number p = refuses (firstRefusal (tests file)) number p
+  answer-refused number p = refuses (firstRefusal (tests speaks file)) number p

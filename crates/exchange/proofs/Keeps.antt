@@ -2,6 +2,7 @@
 -- besides the walk closes. Assumes nothing.
 use Prim.Native.Nat.{ℕ, _<_}
 use native.Mathlib.Omega.{arith}
+use mathlib.Core.Bool.{Bool}
 use mathlib.Core.Path.{_≡_}
 use mathlib.Core.Logic.{_↔_, Iff·trans, ⊎-elim}
 use mathlib.Core.List.{List, [], _∷_, _++_, List·Memᴰ·append-cases}
@@ -65,17 +66,18 @@ module _ (file : List ℕ) where
             (one, (two, (three, (four, (five, (seven, tt)))))),
       )
 
-  -- the walk closes
-  abbrev pub Closes : Type 0
-  Closes = (q : ℕ) × (stepVerdict file ≡ Closed q)
+-- the walk closes
+abbrev pub Closes : (ℕ → ℕ → Bool) → List ℕ → Type 0
+Closes speaks file = (q : ℕ) × (stepVerdict speaks file ≡ Closed q)
 
-  pub none-applies : NoneApplies (tests file) ↔ (Keeps file × Closes)
-  none-applies =
-      let (to, from) = none-to-7 in
-      let closes = walked-nowhere (stepVerdict file) in (
-        λ (one, (two, (three, (four, (five, (seven, (walk, _))))))).
-            (to (one, (two, (three, (four, (five, (seven, tt)))))), closes .0 walk),
-        λ (keeps, closed).
-            let (one, (two, (three, (four, (five, (seven, _)))))) = from keeps in
-            (one, (two, (three, (four, (five, (seven, (closes .1 closed, tt))))))),
-      )
+pub none-applies :
+    (speaks : ℕ → ℕ → Bool) (file : List ℕ) → NoneApplies (tests speaks file) ↔ (Keeps file × Closes speaks file)
+none-applies speaks file =
+    let (to, from) = none-to-7 file in
+    let closes = walked-nowhere (stepVerdict speaks file) in (
+      λ (one, (two, (three, (four, (five, (seven, (walk, _))))))).
+          (to (one, (two, (three, (four, (five, (seven, tt)))))), closes .0 walk),
+      λ (keeps, closed).
+          let (one, (two, (three, (four, (five, (seven, _)))))) = from keeps in
+          (one, (two, (three, (four, (five, (seven, (closes .1 closed, tt))))))),
+    )

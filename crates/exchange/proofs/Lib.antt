@@ -11,4 +11,5 @@ pub mod Reasons
 pub mod Kept
 pub mod Small
 pub mod Longer
+pub mod Figure1
 pub mod Samples

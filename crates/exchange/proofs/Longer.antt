@@ -1,6 +1,7 @@
 -- A file longer than the longest exchange file has the answer of its first bytes (specs/Promises.antt, `LongerFile`).
 -- Assumes nothing.
 use Prim.Native.Nat.{ℕ, suc}
+use mathlib.Core.Bool.{Bool}
 use mathlib.Core.Path.{ap}
 use mathlib.Core.List.{List}
 use lib.ListN.{take, drop}
@@ -13,8 +14,9 @@ use Rattle.exchange.specs.Answer.{tests, exchangeAnswer}
 use Rattle.exchange.specs.Promises.{LongerFile}
 use Rattle.exchange.proofs.LayoutIs.{bounded}
 
-pub longer-file : LongerFile
+pub longer-file : (speaks : ℕ → ℕ → Bool) → LongerFile speaks
 unfolding exchangeAnswer
-longer-file file long =
+longer-file speaks file long =
     let front : List ℕ = take (suc mostBytes) file in
-    ap (λ (t : Tested). unlessRefused Refused t Equal) (longer-refused exchangeLayout bounded file long (drop 3 (tests file)) (drop 3 (tests front)))
+    ap (λ (t : Tested). unlessRefused Refused t Equal)
+    (longer-refused exchangeLayout bounded file long (drop 3 (tests speaks file)) (drop 3 (tests speaks front)))

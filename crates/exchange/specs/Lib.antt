@@ -6,4 +6,5 @@ pub mod Proofs
 pub mod Reasons
 pub mod Force
 pub mod Promises
+pub mod Figure1
 pub mod Samples

@@ -10,8 +10,9 @@ use Rattle.basics.specs.Membership.{_∈_}
 use Rattle.basics.specs.Limits.{mostFormulas, mostStatements, mostSteps, mostDepth}
 use Rattle.file.specs.Layout.{AllFit}
 use Rattle.logic.specs.Judgment.{truth}
+use Rattle.logic.specs.Principals.{Relation}
+use Rattle.logic.specs.Derivation.{Derivation}
 use Rattle.logic.specs.Depth.{stepDepths}
-use Rattle.logic.specs.Figure1.{Derivation}
 use Rattle.table.specs.declared.entry.Entry.{Entry}
 use Rattle.table.specs.Laws.{Ordered, NoneRepeated}
 use Rattle.table.specs.Spelled.{spell, spellAll}
@@ -44,28 +45,30 @@ pub record Keeps (file : List ℕ) : Type 0 where
   pub first-in : (n : ℕ) → n ∈ firstList file → n < formulas file
   pub second-in : (n : ℕ) → n ∈ secondList file → n < formulas file
 
--- A proof of what a number spells from what these numbers spell: a derivation in Figure 1, and no step of it is deeper
--- than 512.
-pub record Proof (es : List Entry) (statements : List ℕ) (goal : ℕ) : Type 0 where
-  pub derivation : Derivation (spellAll es statements) (truth (spell es goal))
+-- A proof of what a number spells from what these numbers spell: a derivation, and no step of it is deeper than 512.
+-- "A proof is a derivation in Figure 1" (demand 2): there R is equality (Figure1.antt).
+pub record Proof (R : Relation) (es : List Entry) (statements : List ℕ) (goal : ℕ) : Type 0 where
+  pub derivation : Derivation R (spellAll es statements) (truth (spell es goal))
   pub within : (d : ℕ) → d ∈ stepDepths 1 derivation → d ≤ mostDepth
 
--- a proof for every position of a list, in order
-abbrev pub ProofOfEach : List Entry → List ℕ → List ℕ → Type 0
-ProofOfEach es statements [] = Unit
-ProofOfEach es statements (n ∷ ns) = Proof es statements n × ProofOfEach es statements ns
+module _ (R : Relation) where
+  -- a proof for every position of a list, in order
+  abbrev pub ProofOfEach : List Entry → List ℕ → List ℕ → Type 0
+  ProofOfEach es statements [] = Unit
+  ProofOfEach es statements (n ∷ ns) = Proof R es statements n × ProofOfEach es statements ns
 
--- their words, one after the other
-abbrev pub wordsOfEach : (es : List Entry) (statements goals : List ℕ) → ProofOfEach es statements goals → List ℕ
-wordsOfEach es statements [] none = []
-wordsOfEach es statements (n ∷ ns) (p, rest) = Derived.words (number es) (p .derivation) ++ wordsOfEach es statements ns rest
+  -- their words, one after the other
+  abbrev pub wordsOfEach : (es : List Entry) (statements goals : List ℕ) → ProofOfEach es statements goals → List ℕ
+  wordsOfEach es statements [] none = []
+  wordsOfEach es statements (n ∷ ns) (p, rest) =
+      Derived.words (number es) (p .derivation) ++ wordsOfEach es statements ns rest
 
 -- "a proof of each statement of the second list from the first, in order, then of each of the first from the second":
 -- the step words are theirs
-pub record CarriesAll (file : List ℕ) : Type 0 where
-  pub second-from-first : ProofOfEach (table file) (firstList file) (secondList file)
-  pub first-from-second : ProofOfEach (table file) (secondList file) (firstList file)
+pub record CarriesAll (R : Relation) (file : List ℕ) : Type 0 where
+  pub second-from-first : ProofOfEach R (table file) (firstList file) (secondList file)
+  pub first-from-second : ProofOfEach R (table file) (secondList file) (firstList file)
   pub words :
       steps file
-      ≡ wordsOfEach (table file) (firstList file) (secondList file) second-from-first
-      ++ wordsOfEach (table file) (secondList file) (firstList file) first-from-second
+      ≡ wordsOfEach R (table file) (firstList file) (secondList file) second-from-first
+      ++ wordsOfEach R (table file) (secondList file) (firstList file) first-from-second

@@ -7,7 +7,7 @@ use lib.ListN.{length, replicate}
 use Rattle.file.specs.Words.{fileOf}
 use Rattle.exchange.specs.declared.verdict.ExchangeVerdict.{ExchangeVerdict}
 use Rattle.exchange.specs.declared.verdict.ExchangeVerdict.the-variants.{Equal, Refused}
-use Rattle.exchange.specs.Answer.{exchangeAnswer}
+use Rattle.exchange.specs.Figure1.{exchangeAnswer}
 
 -- a row: the words of the file, and the answer
 pub record Sample : Type 0 where

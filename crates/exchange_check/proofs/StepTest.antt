@@ -17,12 +17,11 @@ use Rattle.steps.specs.declared.verdict.WalkVerdict.{WalkVerdict}
 use Rattle.steps.specs.declared.verdict.WalkVerdict.the-variants as Walk
 use Rattle.steps.specs.Obligation.{obligations}
 use Rattle.steps.specs.Run.{run, allUsed, walked}
-use Rattle.steps.specs.Figure1.{same, walk}
+use Rattle.steps.specs.Figure1.{same, walk, proofsAnswer}
 use Rattle.steps.specs.Parts.{andThen, later, walkFrom}
 use Rattle.steps.proofs.Walked.{walk-refused, words-remain, none-remains}
 use Rattle.steps.proofs.Parts.{one-after-another, places-move, uses-words}
 use Rattle.steps.proofs.Figure1.{refused-in-range}
-use Rattle.steps.specs.Answer.{proofsAnswer}
 use Rattle.exchange_check.specs.Parts.{stepTest}
 
 -- The code got the verdict v on the proofs of the second list from the first.

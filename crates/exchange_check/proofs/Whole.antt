@@ -9,10 +9,12 @@ use Rattle.basics.specs.Refusals.{Test, firstRefusal, unlessRefused}
 use Rattle.basics.proofs.Refusals.{joined-refused, joined-passed}
 use Rattle.file.specs.Layout.{layoutTests}
 use Rattle.file.proofs.LayoutLaws.{passed-to-three}
+use Rattle.steps.specs.Figure1.{same}
 use Rattle.exchange.specs.declared.verdict.ExchangeVerdict.{ExchangeVerdict}
 use Rattle.exchange.specs.declared.verdict.ExchangeVerdict.the-variants.{Equal, Refused}
 use Rattle.exchange.specs.Layout.{exchangeLayout, heads, seconds, firstList, secondList, steps}
-use Rattle.exchange.specs.Answer.{tests, exchangeAnswer}
+use Rattle.exchange.specs.Answer as Any
+use Rattle.exchange.specs.Figure1.{tests, exchangeAnswer}
 use Rattle.exchange.specs.Proofs.{Sized}
 use Rattle.exchange.proofs.LayoutIs.{sized}
 use Rattle.exchange.proofs.Lengths.{length-heads}
@@ -29,7 +31,8 @@ module _ (file : List ℕ) where
   pub layout-refused : {t : Tested} {number p : ℕ} → t ≡ firstRefusal (layoutTests exchangeLayout file) → t ≡ Outcome.Refused number p
       → Refused number p ≡ exchangeAnswer file
   layout-refused {t} {number} {p} answered e =
-      sym (answer-refused file number p .1 (joined-refused (layoutTests exchangeLayout file) from-4 (sym answered ∙ e)))
+      sym (answer-refused same file number p .1
+      (joined-refused (layoutTests exchangeLayout file) from-4 (sym answered ∙ e)))
 
   -- A file that they let pass has the sizes and the length that the layout asks for.
   pub layout-passed : {t : Tested} → t ≡ firstRefusal (layoutTests exchangeLayout file) → t ≡ Outcome.Passed → Sized file
@@ -51,7 +54,7 @@ module _ (file : List ℕ) where
     answers :
         arraysAnswer (heads file) (seconds file) (firstList file ++ secondList file) (firstList file) (secondList file) (steps file)
         ≡ exchangeAnswer file
-    unfolding exchangeAnswer
+    unfolding Any.exchangeAnswer
     answers = ap (λ (t : Tested). unlessRefused Refused t Equal) tests-from-4
 
     -- so what the code answers over the parts that it took

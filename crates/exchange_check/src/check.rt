@@ -3,7 +3,7 @@ ghost use Prim.Native.Nat.{_*_, _≤_};
 ghost use mathlib.Core.Path.{_≡_};
 ghost use lib.ListN.{length};
 ghost use Rattle.table.specs.Tests.{SizedTable};
-ghost use Rattle.exchange.specs.Answer.{exchangeAnswer};
+ghost use Rattle.exchange.specs.Figure1.{exchangeAnswer};
 ghost use Rattle.exchange.specs.Proofs.{Sized};
 ghost use Rattle.exchange_check.specs.Parts.{arraysAnswer};
 use crate::arrays::check_arrays;

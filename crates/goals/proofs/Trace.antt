@@ -208,7 +208,7 @@ module _ (es : List Entry) where
 pub goal-per-step : GoalPerStep
 goal-per-step es ss n ws e =
     let gs = goalsOf es ws n in
-    let lines = ap length (goals-of-trace es ss n ws e) ∙ line-per-word es _ ws e in
+    let lines = ap length (goals-of-trace es ss n ws e) ∙ line-per-word mostDepth es _ ws e in
     let least = lines-most es ws (numbersOf gs) (affirmsOf gs) in
     let most = goals-most es ws (kept n 0 ∷ []) in
     let same-count : length (numbersOf gs) ≡ length gs = length-map gs (λ k. k .number) in

@@ -2,4 +2,5 @@
 pub mod Line
 pub mod LineFits
 pub mod Printed
+pub mod Figure1
 pub mod Samples

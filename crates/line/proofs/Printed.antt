@@ -16,6 +16,7 @@ use Rattle.basics.specs.Written.{written}
 use Rattle.basics.proofs.Written.{written-fits}
 use Rattle.signers.proofs.Each.{signers-are}
 use Rattle.signers.proofs.Joined.{signers-are-principals}
+use Rattle.logic.proofs.Principals.{Decided, decided}
 use Rattle.record.specs.declared.verdict.RecordVerdict.{RecordVerdict}
 use Rattle.record.specs.declared.verdict.RecordVerdict.the-variants.{Granted, Refused}
 use Rattle.record.specs.Layout.{heads, seconds, statements, table, saysLeftNumbers, signers}
@@ -36,13 +37,13 @@ use Rattle.line.proofs.LineFits.{line-fits, exchange-line-fits}
 
 -- ---- a call
 
-module _ (file : List ℕ) where
+module _ (speaks : ℕ → ℕ → Bool) (file : List ℕ) where
   -- Of the list that a call leaves only the signers are printed.
-  of-list : (room : ℕ) (before : List ℕ) (v : RecordVerdict) → recordAnswer file room ≡ v
+  of-list : (room : ℕ) (before : List ℕ) (v : RecordVerdict) → recordAnswer speaks file room ≡ v
       → recordLine v (listAfter file v before) ≡ recordLine v (signers file)
   unfolding recordLine
   of-list room before (Granted count) e =
-      let counted = granted-exactly file room count .0 e .counted in
+      let counted = granted-exactly speaks (Decided speaks) (decided speaks) file room count .0 e .counted in
       let rest : List ℕ = drop count before in
       let first : take count (signers file ++ rest) ≡ take count (signers file) =
       ap (λ (n : ℕ). take n (signers file ++ rest)) counted
@@ -52,39 +53,39 @@ module _ (file : List ℕ) where
   of-list room before (Refused number place) e = refl
 
   -- A grant with a list of any length is one with 256 words, with the same count.
-  with-most : (room count : ℕ) → recordAnswer file room ≡ Granted count
-      → recordAnswer file mostStatements ≡ Granted count
+  with-most : (room count : ℕ) → recordAnswer speaks file room ≡ Granted count
+      → recordAnswer speaks file mostStatements ≡ Granted count
   with-most room count e =
-      let grant = granted-exactly file room count .0 e in
-      let few : count ≤ mostStatements = subst Small e (answers-small file room) in
+      let grant = granted-exactly speaks (Decided speaks) (decided speaks) file room count .0 e in
+      let few : count ≤ mostStatements = subst Small e (answers-small speaks file room) in
       let counted = grant .counted in
-      granted-exactly file mostStatements count .1 (record {
+      granted-exactly speaks (Decided speaks) (decided speaks) file mostStatements count .1 (record {
         keeps = grant .keeps;
         is-proof = grant .is-proof;
         fits = omega arith;
         counted = counted;
       })
 
-pub line-of-call : LineOfCall
-line-of-call file before after answer room answered left =
-    let e : recordAnswer file mostStatements ≡ answer = sym (answered ∙ ap (recordAnswer file) room) in
+pub line-of-call : (speaks : ℕ → ℕ → Bool) → LineOfCall speaks
+line-of-call speaks file before after answer room answered left =
+    let e : recordAnswer speaks file mostStatements ≡ answer = sym (answered ∙ ap (recordAnswer speaks file) room) in
     ap (recordLine answer) left
-    ∙ of-list file mostStatements before answer e
+    ∙ of-list speaks file mostStatements before answer e
     ∙ ap (λ (v : RecordVerdict). recordLine v (signers file)) (sym e)
 
 -- ---- a grant
 
-pub line-of-grant : LineOfGrant
-line-of-grant file before after answer g =
-    let e : recordAnswer file (length before) ≡ answer = sym (g .answered) in
+pub line-of-grant : (speaks : ℕ → ℕ → Bool) → LineOfGrant speaks
+line-of-grant speaks file before after answer g =
+    let e : recordAnswer speaks file (length before) ≡ answer = sym (g .answered) in
     ap (recordLine answer) (g .list-after)
-    ∙ of-list file (length before) before answer e
+    ∙ of-list speaks file (length before) before answer e
     ∙ ap (λ (v : RecordVerdict). recordLine v (signers file))
-    (g .granted ∙ sym (with-most file (length before) (g .count) (e ∙ g .granted)))
+    (g .granted ∙ sym (with-most speaks file (length before) (g .count) (e ∙ g .granted)))
 
-pub one-line : OneLine
-one-line file before after before′ after′ answer answer′ g h =
-    line-of-grant file before after answer g ∙ sym (line-of-grant file before′ after′ answer′ h)
+pub one-line : (speaks : ℕ → ℕ → Bool) → OneLine speaks
+one-line speaks file before after before′ after′ answer answer′ g h =
+    line-of-grant speaks file before after answer g ∙ sym (line-of-grant speaks file before′ after′ answer′ h)
 
 -- ---- the line written whole
 
@@ -103,13 +104,13 @@ fits-whole before line fits counted is =
     let many : _ ≡ length line = counted ∙ ap (λ (b : Bool). pick b (length line) 0) room in
     is ∙ ap (λ (b : Bool). pick b (written before line) before) room ∙ written-fits before line fits ∙ ap (λ (n : ℕ). line ++ drop n before) (sym many)
 
-pub whole-line : WholeLine
-whole-line file before count after counted is room =
-    let v : RecordVerdict = recordAnswer file mostStatements in
-    let fits = line-fits v (signers file) (answers-small file mostStatements) (are-words file) in
+pub whole-line : (speaks : ℕ → ℕ → Bool) → WholeLine speaks
+whole-line speaks file before count after counted is room =
+    let v : RecordVerdict = recordAnswer speaks file mostStatements in
+    let fits = line-fits v (signers file) (answers-small speaks file mostStatements) (are-words file) in
     fits-whole before (recordLine v (signers file)) (omega arith) counted is
 
-pub whole-exchange-line : WholeExchangeLine
-whole-exchange-line file before count after counted is room =
-    let fits = exchange-line-fits (exchangeAnswer file) (exchange-answers-small file) in
-    fits-whole before (exchangeLine (exchangeAnswer file)) (omega arith) counted is
+pub whole-exchange-line : (speaks : ℕ → ℕ → Bool) → WholeExchangeLine speaks
+whole-exchange-line speaks file before count after counted is room =
+    let fits = exchange-line-fits (exchangeAnswer speaks file) (exchange-answers-small speaks file) in
+    fits-whole before (exchangeLine (exchangeAnswer speaks file)) (omega arith) counted is

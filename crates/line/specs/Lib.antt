@@ -4,4 +4,5 @@ pub mod RefusedLine
 pub mod RecordLine
 pub mod ExchangeLine
 pub mod Printed
+pub mod Figure1
 pub mod Samples

@@ -8,11 +8,11 @@ use Rattle.text.specs.Ascii.{ascii}
 use Rattle.file.specs.Words.{fileOf}
 use Rattle.record.specs.declared.verdict.RecordVerdict.{RecordVerdict}
 use Rattle.record.specs.declared.verdict.RecordVerdict.the-variants.{Granted, Refused}
-use Rattle.record.specs.Answer.{recordAnswer}
+use Rattle.record.specs.Figure1.{recordAnswer}
 use Rattle.record.specs.Samples.{overT}
 use Rattle.exchange.specs.declared.verdict.ExchangeVerdict.{ExchangeVerdict}
 use Rattle.exchange.specs.declared.verdict.ExchangeVerdict.the-variants.{Equal, Refused as ExchangeRefused}
-use Rattle.exchange.specs.Answer.{exchangeAnswer}
+use Rattle.exchange.specs.Figure1.{exchangeAnswer}
 use Rattle.exchange.specs.Samples.{K}
 use Rattle.line.specs.RecordLine.{recordLine}
 use Rattle.line.specs.ExchangeLine.{exchangeLine}

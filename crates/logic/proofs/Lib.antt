@@ -1,5 +1,6 @@
 -- The theorems whose statements are in specs/, and the lemmas behind them. Figure1, Samples, Says and Misreadings are
 -- cited from above.
+pub mod Principals
 pub mod Depth
 pub mod Structural
 pub mod OneStep

@@ -1,6 +1,6 @@
 -- What the classes get wrong, in the words of the demands, and what holds instead: for one statement, and for any list
--- of signed ones alone, however many they are and whatever they say. Proved in proofs/Misreadings.antt. Assumes
--- nothing.
+-- of signed ones alone, however many they are and whatever they say. For Figure 1, as classes read it: with deputies
+-- one principal's word may serve another. Proved in proofs/Misreadings.antt. Assumes nothing.
 use mathlib.Core.List.{List, [], _∷_, _++_}
 use mathlib.Core.Logic.{_≢_}
 use Rattle.basics.specs.Membership.{_∈_}

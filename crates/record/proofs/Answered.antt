@@ -1,6 +1,7 @@
 -- The answer by what the tests come to. Assumes nothing.
 use Prim.Native.Nat.{ℕ}
 use native.Mathlib.Omega.{arith}
+use mathlib.Core.Bool.{Bool}
 use mathlib.Core.Path.{_≡_, refl, sym}
 use mathlib.Core.Logic.{_↔_}
 use mathlib.Core.List.{List}
@@ -27,11 +28,13 @@ refuses Outcome.Passed n number p = (λ e. absurd (not-granted (sym e)), λ e. a
 refuses (Outcome.Refused m q) n number p = (λ e. cc, λ e. cc)
 
 -- So for a file.
-module _ (file : List ℕ) (room : ℕ) where
-  pub answer-granted : (count : ℕ) → recordAnswer file room ≡ Granted count ↔ ((firstRefusal (tests file room) ≡ Outcome.Passed) × (count ≡ length (signers file)))
+module _ (speaks : ℕ → ℕ → Bool) (file : List ℕ) (room : ℕ) where
+  pub answer-granted : (count : ℕ) → recordAnswer speaks file room ≡ Granted count
+      ↔ ((firstRefusal (tests speaks file room) ≡ Outcome.Passed) × (count ≡ length (signers file)))
   unfolding recordAnswer
-  answer-granted count = grants (firstRefusal (tests file room)) (length (signers file)) count
+  answer-granted count = grants (firstRefusal (tests speaks file room)) (length (signers file)) count
 
-  pub answer-refused : (number p : ℕ) → recordAnswer file room ≡ Refused number p ↔ firstRefusal (tests file room) ≡ Outcome.Refused number p
+  pub answer-refused : (number p : ℕ) → recordAnswer speaks file room ≡ Refused number p
+      ↔ firstRefusal (tests speaks file room) ≡ Outcome.Refused number p
   unfolding recordAnswer
-  answer-refused number p = refuses (firstRefusal (tests file room)) (length (signers file)) number p
+  answer-refused number p = refuses (firstRefusal (tests speaks file room)) (length (signers file)) number p

@@ -17,16 +17,19 @@ use Rattle.basics.proofs.Refusals.{not-passed, passed-by-all, joined-refused, j
 use Rattle.steps.specs.declared.verdict.WalkVerdict.{WalkVerdict}
 use Rattle.steps.specs.declared.verdict.WalkVerdict.the-variants as Walk
 use Rattle.steps.specs.Run.{walked}
+use Rattle.steps.specs.Figure1.{same}
 use Rattle.signers.proofs.Each.{principals-are, signs-spelled, signers-have-papers}
 use Rattle.record.specs.declared.verdict.RecordVerdict.{RecordVerdict}
 use Rattle.record.specs.declared.verdict.RecordVerdict.the-variants.{Granted, Refused}
 use Rattle.record.specs.Layout.{statements, table, saysLeftNumbers, signers}
-use Rattle.record.specs.Answer.{stepVerdict, testsTo7, recordAnswer}
+use Rattle.record.specs.Answer as Any
+use Rattle.record.specs.Answer.{testsTo7}
+use Rattle.record.specs.Figure1.{stepVerdict, recordAnswer}
 use Rattle.record.specs.Former.{formerSigners, FormerSignersSpelled, formerAnswer, FormerEight, ArchiveKept}
 use Rattle.record.proofs.Answered.{not-granted}
 use Rattle.record.proofs.Keeps.{none-to-7}
 use Rattle.record.proofs.Reasons.{step-number}
-use Rattle.record.proofs.Eight.{eight-exactly}
+use Rattle.record.proofs.Figure1.{eight-exactly}
 
 pub former-signers-spelled : FormerSignersSpelled
 former-signers-spelled file keeps K =
@@ -87,7 +90,7 @@ module _ (file : List ℕ) (room : ℕ) where
   former-short = ltb room (length (formerSigners file))
 
   answer-is : recordAnswer file room ≡ answered to-7 (stepVerdict file) short (length (signers file))
-  unfolding recordAnswer
+  unfolding Any.recordAnswer
   answer-is =
       after-tests (testsTo7 file) (walked (stepVerdict file) ∷ test 8 (at0 short) ∷ []) to-7 refl
       (Granted (length (signers file)))
@@ -167,7 +170,7 @@ same-low Outcome.Passed v short former count most number p steps few = (
 
 module _ (file : List ℕ) (room : ℕ) where
   steps-from-9 : (n q : ℕ) → stepVerdict file ≡ Walk.Refused n q → 9 ≤ n
-  steps-from-9 n q e = step-number file n q e .0
+  steps-from-9 n q e = step-number same file n q e .0
 
   -- 8 was the list's reason alone: 1 to 7 refuse by their numbers, now as then, and 8 is none of theirs now,
   of-eight : (t : Tested) (v : WalkVerdict) (former : Bool) (p : ℕ) → to-7 file room ≡ t → stepVerdict file ≡ v

@@ -2,6 +2,7 @@
 -- signers fit the lent list and the walk closes. Assumes nothing.
 use Prim.Native.Nat.{ℕ, _≤_}
 use native.Mathlib.Omega.{arith}
+use mathlib.Core.Bool.{Bool}
 use mathlib.Core.Path.{_≡_}
 use mathlib.Core.Logic.{_↔_, Iff·trans}
 use mathlib.Core.List.{List}
@@ -50,16 +51,16 @@ none-to-7 file =
     )
 
 -- the walk closes
-abbrev pub Closes : List ℕ → Type 0
-Closes file = (q : ℕ) × (stepVerdict file ≡ Closed q)
+abbrev pub Closes : (ℕ → ℕ → Bool) → List ℕ → Type 0
+Closes speaks file = (q : ℕ) × (stepVerdict speaks file ≡ Closed q)
 
 pub none-applies :
-    (file : List ℕ) (room : ℕ)
-    → NoneApplies (tests file room) ↔ (Keeps file × (length (signers file) ≤ room) × Closes file)
-none-applies file room =
+    (speaks : ℕ → ℕ → Bool) (file : List ℕ) (room : ℕ)
+    → NoneApplies (tests speaks file room) ↔ (Keeps file × (length (signers file) ≤ room) × Closes speaks file)
+none-applies speaks file room =
     let (to, from) = none-to-7 file in
     let fits = at0-nowhere _ (not-less room (length (signers file))) in
-    let closes = walked-nowhere (stepVerdict file) in (
+    let closes = walked-nowhere (stepVerdict speaks file) in (
       λ (one, (two, (three, (four, (five, (six, (seven, (walk, (eight, _))))))))).
           (to (one, (two, (three, (four, (five, (six, (seven, tt))))))), fits .0 eight, closes .0 walk),
       λ (keeps, room-for, closed).

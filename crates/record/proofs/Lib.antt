@@ -12,5 +12,6 @@ pub mod Eight
 pub mod Small
 pub mod Longer
 pub mod SameSet
+pub mod Figure1
 pub mod Former
 pub mod Samples

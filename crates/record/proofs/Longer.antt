@@ -24,10 +24,11 @@ either : (b : Bool) {t : Tested} (verdict other : RecordVerdict) → t ≡ pick 
 either true verdict other e = ap (λ (t : Tested). unlessRefused Refused t verdict) e ∙ ap (λ (t : Tested). unlessRefused Refused t other) (sym e)
 either false verdict other e = ap (λ (t : Tested). unlessRefused Refused t verdict) e ∙ ap (λ (t : Tested). unlessRefused Refused t other) (sym e)
 
-pub longer-file : LongerFile
+pub longer-file : (speaks : ℕ → ℕ → Bool) → LongerFile speaks
 unfolding recordAnswer
-longer-file file room long =
+longer-file speaks file room long =
     let front : List ℕ = take (suc mostBytes) file in
-    let rest = drop 3 (tests file room) in
+    let rest = drop 3 (tests speaks file room) in
     either (inRange recordLayout file) (Granted (length (signers file))) (Granted (length (signers front))) (too-long recordLayout bounded file _ refl long rest)
-    ∙ ap (λ (t : Tested). unlessRefused Refused t (Granted (length (signers front)))) (longer-refused recordLayout bounded file long rest (drop 3 (tests front room)))
+    ∙ ap (λ (t : Tested). unlessRefused Refused t (Granted (length (signers front))))
+    (longer-refused recordLayout bounded file long rest (drop 3 (tests speaks front room)))

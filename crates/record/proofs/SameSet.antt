@@ -1,23 +1,25 @@
 -- Hypotheses form a set: records that differ only in how often and in which order their statements stand have one
 -- answer, and the same signers (specs/Promises.antt, `StatementsAreASet` and `StatedTwice`). Assumes nothing.
 use Prim.Native.Nat.{ℕ, _<_}
+use mathlib.Core.Bool.{Bool}
 use mathlib.Core.Path.{_≡_, refl, sym, ap, ap₂, subst, _∙_}
 use mathlib.Core.Logic.{Iff·symm}
 use mathlib.Core.List.{List, [], _∷_}
 use lib.ListN.{length}
 use Rattle.basics.specs.Membership.{_∈_}
+use Rattle.basics.specs.Limits.{mostDepth}
 use Rattle.basics.specs.Refusals.{test}
 use Rattle.file.proofs.Outside.{none-outside}
 use Rattle.table.specs.declared.entry.Entry.{Entry}
 use Rattle.table.specs.Entry.{formula}
 use Rattle.table.specs.Tests.{entries, wrongEntry, repeatedEntry}
+use Rattle.logic.proofs.Principals.{Decided, decided}
 use Rattle.steps.specs.declared.goal.Goal.the-variants.{True}
 use Rattle.steps.specs.Alike.{Alike}
 use Rattle.steps.specs.Obligation.{obligation}
-use Rattle.steps.specs.Run.{walked}
-use Rattle.steps.specs.Figure1.{run}
+use Rattle.steps.specs.Run.{run, walked}
 use Rattle.steps.specs.Naming.{namedNumbers, isSaysLeft}
-use Rattle.steps.proofs.Figure1.{hypotheses-are-a-set}
+use Rattle.steps.proofs.Alike.{hypotheses-are-a-set}
 use Rattle.signers.specs.Signers.{signers as signersOf}
 use Rattle.signers.proofs.Each.{same-signers}
 use Rattle.record.specs.Layout.{formulas, goal, statements, steps, table, saysLeftNumbers, signers}
@@ -57,12 +59,15 @@ module _ (file other : List ℕ) (s : SameSet file other) where
   same-obligation : Alike (obligation (statements file) (goal file)) (obligation (statements other) (goal other))
   same-obligation = record { same-goal = ap (λ (n : ℕ). True (formula n)) (s .same-goal); same-depth = refl; same-set = s .same-statements }
 
-  same-verdict : stepVerdict file ≡ stepVerdict other
-  same-verdict =
-      hypotheses-are-a-set (table file) _ _ same-obligation (steps file)
-      ∙ ap₂ (λ (es : List Entry) (ws : List ℕ). run es ws (obligation (statements other) (goal other) ∷ [])) same-table (s .same-steps)
+  same-verdict : (speaks : ℕ → ℕ → Bool) → stepVerdict speaks file ≡ stepVerdict speaks other
+  same-verdict speaks =
+      hypotheses-are-a-set speaks mostDepth (table file) _ _ same-obligation (steps file)
+      ∙ ap₂
+      (λ (es : List Entry) (ws : List ℕ). run speaks mostDepth es ws (obligation (statements other) (goal other) ∷ []))
+      same-table (s .same-steps)
 
-  module _ (fits : Sized file) (fits′ : Sized other) (below : (n : ℕ) → n ∈ statements file → n < formulas file) (room : ℕ) where
+  module _ (speaks : ℕ → ℕ → Bool) (fits : Sized file) (fits′ : Sized other) (below : (n : ℕ) → n ∈ statements file
+      → n < formulas file) (room : ℕ) where
     -- Their tables are as long, and 7 doesn't apply to the other either.
     same-formulas : formulas file ≡ formulas other
     same-formulas = sym (length-heads file fits) ∙ ap length (s .same-heads) ∙ length-heads other fits′
@@ -71,7 +76,7 @@ module _ (file other : List ℕ) (s : SameSet file other) where
     below′ n m = subst (λ (F : ℕ). n < F) same-formulas (below n (s .same-statements n .1 m))
 
     -- 1 to 3 and 7 don't apply to either, and the others look at what is the same.
-    same-tests : tests file room ≡ tests other room
+    same-tests : tests speaks file room ≡ tests speaks other room
     same-tests =
         let (one, (two, (three, _))) = none-to-3-is file .1 fits in
         let (one′, (two′, (three′, _))) = none-to-3-is other .1 fits′ in
@@ -85,24 +90,25 @@ module _ (file other : List ℕ) (s : SameSet file other) where
         let eighth : listShort file room ≡ listShort other room = cc same-count in
         λ i.
         test 1 (first i) ∷ test 2 (second i) ∷ test 3 (third i) ∷ test 4 (fourth i) ∷ test 5 (fifth i) ∷ test 6 (sixth i) ∷ test 7 (seventh i)
-        ∷ walked (same-verdict i) ∷ test 8 (eighth i) ∷ []
+        ∷ walked (same-verdict speaks i) ∷ test 8 (eighth i) ∷ []
 
-    same-answer : recordAnswer file room ≡ recordAnswer other room
+    same-answer : recordAnswer speaks file room ≡ recordAnswer speaks other room
     unfolding recordAnswer
     same-answer = cc (same-tests, same-count)
 
-pub statements-are-a-set : StatementsAreASet
-statements-are-a-set file other fits fits′ s below room = same-answer file other s fits fits′ below room
+pub statements-are-a-set : (speaks : ℕ → ℕ → Bool) → StatementsAreASet speaks
+statements-are-a-set speaks file other fits fits′ s below room =
+    same-answer file other s speaks fits fits′ below room
 
-pub stated-twice : StatedTwice
-stated-twice file other fits fits′ s = (
+pub stated-twice : (speaks : ℕ → ℕ → Bool) → StatedTwice speaks
+stated-twice speaks file other fits fits′ s = (
   λ room count. (
     λ e.
-        let r = granted-exactly file room count .0 e in
-        sym (same-answer file other s fits fits′ (r .keeps .statements-in) room) ∙ e,
+        let r = granted-exactly speaks (Decided speaks) (decided speaks) file room count .0 e in
+        sym (same-answer file other s speaks fits fits′ (r .keeps .statements-in) room) ∙ e,
     λ e.
-        let r = granted-exactly other room count .0 e in
-        sym (same-answer other file (turned s) fits′ fits (r .keeps .statements-in) room) ∙ e,
+        let r = granted-exactly speaks (Decided speaks) (decided speaks) other room count .0 e in
+        sym (same-answer other file (turned s) speaks fits′ fits (r .keeps .statements-in) room) ∙ e,
   ),
   same-names file other s,
 )

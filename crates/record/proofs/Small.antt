@@ -1,6 +1,7 @@
 -- How large an answer can be (specs/Promises.antt, `AnswersSmall`). Assumes nothing.
 use Prim.Native.Nat.{ℕ, _<_}
 use native.Mathlib.Omega.{arith}
+use mathlib.Core.Bool.{Bool}
 use mathlib.Core.Path.{_≡_, refl}
 use mathlib.Core.Logic.{Iff·trans}
 use mathlib.Core.List.{List}
@@ -11,6 +12,8 @@ use Rattle.file.specs.Reasons.{size-outside}
 use Rattle.file.proofs.LayoutLaws as Any
 use Rattle.file.proofs.LayoutLaws.{part-most}
 use Rattle.file.proofs.Reasons.{layout-small}
+use Rattle.logic.specs.Principals.{Relation}
+use Rattle.logic.proofs.Principals.{Decided, decided}
 use Rattle.table.proofs.Reasons.{entry-small}
 use Rattle.signers.proofs.Joined.{no-more-than-statements}
 use Rattle.record.specs.declared.verdict.RecordVerdict.{RecordVerdict}
@@ -24,24 +27,25 @@ use Rattle.record.proofs.LayoutIs.{ranges-are}
 use Rattle.record.proofs.Granted.{granted-exactly}
 use Rattle.record.proofs.Reasons.{stop-small, reason-range, refused-exactly}
 
-module _ (file : List ℕ) (room : ℕ) where
+module _ (speaks : ℕ → ℕ → Bool) (file : List ℕ) (room : ℕ) where
   -- There are no more signers than statements.
-  grant-small : (count : ℕ) → GrantSays file room count → Small (Granted count)
-  grant-small count r =
+  grant-small : (R : Relation) (count : ℕ) → GrantSays R file room count → Small (Granted count)
+  grant-small R count r =
       let counted = r .counted in
       let few = r .keeps .sized .in-range .few-statements in
       let most = no-more-than-statements (table file) (statements file) (saysLeftNumbers file) in
       omega (arith, part-most recordLayout file 2)
 
   -- A reason after 2 is given of a file whose sizes are in range,
-  ranges : (number p : ℕ) → FirstReason checkingOrder (Reason file room) number p → 2 < number → InRange file
+  ranges : (number p : ℕ) → FirstReason checkingOrder (Reason speaks file room) number p → 2 < number → InRange file
   ranges number p r l =
-      let (least, most) = reason-range file room number p (r .applies) in
+      let (least, most) = reason-range speaks file room number p (r .applies) in
       let two-before = lower-before number 2 most (omega arith) l (λ e. omega arith) in
       settled _ (Iff·trans (Any.in-range recordLayout file) (ranges-are file)) (λ outside. r .none-before 2 0 two-before (layout-broken (size-outside refl refl outside)))
 
   -- and a place that isn't 0 is within one of its parts.
-  reason-small : (number p : ℕ) → (2 < number → InRange file) → Reason file room number p → Small (Refused number p)
+  reason-small : (number p : ℕ) → (2 < number → InRange file) → Reason speaks file room number p
+      → Small (Refused number p)
   reason-small number p range (layout-broken r) = let (least, most, z) = layout-small r in (omega arith, omega arith, omega arith)
   reason-small number p range (table-broken r) =
       let (least, most, l) = entry-small (heads file) (seconds file) number p r in
@@ -54,15 +58,16 @@ module _ (file : List ℕ) (room : ℕ) where
       (omega arith, omega arith, omega (arith, part-most recordLayout file 2))
   reason-small number p range (list-short n z l) = (omega arith, omega arith, omega arith)
   reason-small number p range (stops s) =
-      let (above, below, within) = stop-small file number p s in
+      let (above, below, within) = stop-small speaks file number p s in
       let few = range (omega arith) .few-steps in
       (omega arith, below, omega (arith, part-most recordLayout file 3))
 
-  small : (v : RecordVerdict) → recordAnswer file room ≡ v → Small v
-  small (Granted count) e = grant-small count (granted-exactly file room count .0 e)
+  small : (v : RecordVerdict) → recordAnswer speaks file room ≡ v → Small v
+  small (Granted count) e =
+      grant-small (Decided speaks) count (granted-exactly speaks (Decided speaks) (decided speaks) file room count .0 e)
   small (Refused number p) e =
-      let r = refused-exactly file room number p .0 e in
+      let r = refused-exactly speaks file room number p .0 e in
       reason-small number p (ranges number p r) (r .applies)
 
-pub answers-small : AnswersSmall
-answers-small file room = small file room (recordAnswer file room) refl
+pub answers-small : (speaks : ℕ → ℕ → Bool) → AnswersSmall speaks
+answers-small speaks file room = small speaks file room (recordAnswer speaks file room) refl

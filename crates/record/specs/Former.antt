@@ -1,5 +1,6 @@
 -- The answer that 01 alone gave, before 02's job 3, and what became of it. "Records in the archive keep their granted
--- or refused, save that a short list may now suffice." (02, job 3) Proved in proofs/Former.antt. Assumes nothing.
+-- or refused, save that a short list may now suffice." (02, job 3) It is about Figure 1 alone: no record was ever
+-- answered with another test on principals. Proved in proofs/Former.antt. Assumes nothing.
 use Prim.Native.Nat.{ℕ, _≤_, _<_}
 use mathlib.Core.Path.{_≡_}
 use mathlib.Core.Logic.{_↔_}
@@ -15,8 +16,9 @@ use Rattle.signers.specs.Each.{SaysSome}
 use Rattle.record.specs.declared.verdict.RecordVerdict.{RecordVerdict}
 use Rattle.record.specs.declared.verdict.RecordVerdict.the-variants.{Granted, Refused}
 use Rattle.record.specs.Layout.{statements, table, signers}
-use Rattle.record.specs.Answer.{stepVerdict, testsTo7, recordAnswer}
+use Rattle.record.specs.Answer.{testsTo7}
 use Rattle.record.specs.Proof.{Keeps}
+use Rattle.record.specs.Figure1.{stepVerdict, recordAnswer}
 use Rattle.record.specs.Samples.{overT}
 
 -- "The signers of a record are the principals K of its statements of the form K says A, each once" (01): unused papers

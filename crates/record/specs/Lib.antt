@@ -8,5 +8,6 @@ pub mod Proof
 pub mod Carries
 pub mod Reasons
 pub mod Promises
+pub mod Figure1
 pub mod Samples
 pub mod Former

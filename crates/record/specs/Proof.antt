@@ -10,8 +10,9 @@ use Rattle.basics.specs.Limits.{mostFormulas, mostStatements, mostSteps, mostDe
 use Rattle.file.specs.Layout.{AllFit}
 use Rattle.logic.specs.Proposition.{Proposition}
 use Rattle.logic.specs.Judgment.{truth}
+use Rattle.logic.specs.Principals.{Relation}
+use Rattle.logic.specs.Derivation.{Derivation}
 use Rattle.logic.specs.Depth.{stepDepths}
-use Rattle.logic.specs.Figure1.{Derivation}
 use Rattle.table.specs.Laws.{Ordered, NoneRepeated}
 use Rattle.table.specs.Spelled.{spell, spellAll}
 use Rattle.table.specs.Number.{number}
@@ -50,9 +51,10 @@ statedBy file = spellAll (table file) (statements file)
 abbrev pub goalOf : List ℕ → Proposition
 goalOf file = spell (table file) (goal file)
 
--- "whose words are a proof of its goal": a derivation in Figure 1 of what the goal spells, from what the statements
--- spell. Its words are the step words, and none of its steps is deeper than 512.
-pub record IsProof (file : List ℕ) : Type 0 where
-  pub derivation : Derivation (statedBy file) (truth (goalOf file))
+-- "whose words are a proof of its goal": a derivation of what the goal spells, from what the statements spell. Its
+-- words are the step words, and none of its steps is deeper than 512. "A proof is a derivation in Figure 1" (demand 2):
+-- there R is equality (Figure1.antt).
+pub record IsProof (R : Relation) (file : List ℕ) : Type 0 where
+  pub derivation : Derivation R (statedBy file) (truth (goalOf file))
   pub within : (d : ℕ) → d ∈ stepDepths 1 derivation → d ≤ mostDepth
   pub words : steps file ≡ Derived.words (number (table file)) derivation

@@ -8,8 +8,8 @@ use Rattle.file.specs.Words.{fileOf}
 use Rattle.record.specs.declared.verdict.RecordVerdict.{RecordVerdict}
 use Rattle.record.specs.declared.verdict.RecordVerdict.the-variants.{Granted, Refused}
 use Rattle.record.specs.Layout.{signers}
-use Rattle.record.specs.Answer.{recordAnswer}
 use Rattle.record.specs.ListAfter.{listAfter}
+use Rattle.record.specs.Figure1.{recordAnswer}
 
 -- a row: the words of the file, the length of the lent list, the answer, and whom a grant names
 pub record Sample : Type 0 where

@@ -13,10 +13,9 @@ use Rattle.steps.specs.declared.verdict.WalkVerdict.{WalkVerdict}
 use Rattle.steps.specs.declared.verdict.WalkVerdict.the-variants as Walk
 use Rattle.steps.specs.Obligation.{obligation}
 use Rattle.steps.specs.Run.{run, allUsed, walked}
-use Rattle.steps.specs.Figure1.{same}
+use Rattle.steps.specs.Figure1.{same, proofAnswer}
 use Rattle.steps.proofs.Parts.{uses-words}
 use Rattle.steps.proofs.Walked.{walk-refused, words-remain, none-remains}
-use Rattle.steps.specs.Answer.{proofAnswer}
 use Rattle.record_check.specs.Parts.{stepTest}
 
 module _

@@ -3,7 +3,7 @@ use Prim.Native.Nat.{ℕ}
 use native.Mathlib.Omega.{arith}
 use mathlib.Core.Bool.{true, not}
 use mathlib.Core.Path.{_≡_, sym, ap, _∙_}
-use mathlib.Core.List.{List, [], _∷_, _++_}
+use mathlib.Core.List.{List, _++_}
 use lib.ListN.{length, drop}
 use Rattle.basics.specs.declared.tested.Tested.{Tested}
 use Rattle.basics.specs.declared.tested.Tested.the-variants as Outcome
@@ -12,15 +12,17 @@ use Rattle.basics.proofs.Refusals.{goes-on-at-0, joined-refused, joined-passed}
 use Rattle.basics.proofs.Written.{written-fits}
 use Rattle.file.specs.Layout.{layoutTests}
 use Rattle.file.proofs.LayoutLaws.{passed-to-three, parts-whole}
+use Rattle.steps.specs.Figure1.{same}
 use Rattle.record.specs.declared.verdict.RecordVerdict.{RecordVerdict}
 use Rattle.record.specs.declared.verdict.RecordVerdict.the-variants.{Granted, Refused}
 use Rattle.record.specs.Layout.{recordLayout, goal, heads, seconds, statements, steps, signers}
-use Rattle.record.specs.Answer.{tests, recordAnswer}
+use Rattle.record.specs.Answer as Any
+use Rattle.record.specs.Figure1.{tests, recordAnswer}
 use Rattle.record.specs.ListAfter.{listAfter}
 use Rattle.record.specs.Proof.{Sized}
 use Rattle.record.proofs.LayoutIs.{sized}
 use Rattle.record.proofs.Lengths.{length-heads, length-seconds}
-use Rattle.record.proofs.Granted.{granted-exactly}
+use Rattle.record.proofs.Figure1.{granted-exactly}
 use Rattle.record.proofs.Answered.{answer-refused}
 use Rattle.record_check.specs.Parts.{sizesFit, contentTests, arraysAnswer, PartsOfRecord, listWritten}
 use Rattle.record_check.proofs.PartTests.{sizes-fit-exactly}
@@ -35,7 +37,8 @@ module _ (file : List ℕ) where
   pub layout-refused : (room : ℕ) {t : Tested} {number p : ℕ} → t ≡ firstRefusal (layoutTests recordLayout file) → t ≡ Outcome.Refused number p
       → Refused number p ≡ recordAnswer file room
   layout-refused room {t} {number} {p} answered e =
-      sym (answer-refused file room number p .1 (joined-refused (layoutTests recordLayout file) (from-4 room) (sym answered ∙ e)))
+      sym (answer-refused same file room number p .1
+      (joined-refused (layoutTests recordLayout file) (from-4 room) (sym answered ∙ e)))
 
   -- A file that they let pass has the sizes and the length that the layout asks for.
   pub layout-passed : {t : Tested} → t ≡ firstRefusal (layoutTests recordLayout file) → t ≡ Outcome.Passed → Sized file
@@ -69,7 +72,7 @@ module _ (file : List ℕ) where
         ∙ rw (length-heads file s) (sym (joined-passed (layoutTests recordLayout file) (from-4 room) passed))
 
     answers : (room : ℕ) → arraysAnswer (heads file) (seconds file) (statements file) (goal file) (steps file) room ≡ recordAnswer file room
-    unfolding recordAnswer
+    unfolding Any.recordAnswer
     answers room = ap (λ (t : Tested). unlessRefused Refused t (Granted (length (signers file)))) (tests-from-4 room)
 
     -- what is in the list at the end

@@ -20,7 +20,7 @@ use Rattle.signers_write.specs.Arrays.{arraysSigners}
 use Rattle.record.specs.declared.verdict.RecordVerdict.{RecordVerdict}
 use Rattle.record.specs.declared.verdict.RecordVerdict.the-variants.{Granted, Refused}
 use Rattle.record.specs.Layout.{goal, heads, seconds, statements, steps}
-use Rattle.record.specs.Answer.{recordAnswer}
+use Rattle.record.specs.Figure1.{recordAnswer}
 use Rattle.record.specs.Proof.{Sized}
 
 -- "2. F, S or N is outside its range (place 0)." (01) This is asked of F and S. "A table lent as two arrays of unlike

@@ -2,7 +2,7 @@
 ghost use Prim.Native.Nat.{_*_, _≤_};
 ghost use mathlib.Core.Path.{_≡_};
 ghost use lib.ListN.{length};
-ghost use Rattle.record.specs.Answer.{recordAnswer};
+ghost use Rattle.record.specs.Figure1.{recordAnswer};
 ghost use Rattle.record.specs.ListAfter.{listAfter};
 ghost use Rattle.record.specs.Proof.{Sized};
 ghost use Rattle.record_check.specs.Parts.{granted, arraysAnswer, listWritten};

@@ -12,21 +12,20 @@ use Rattle.text.proofs.Places.{fill-fits}
 use Rattle.basics.specs.Limits.{mostStatements}
 use Rattle.record.specs.declared.verdict.RecordVerdict.{RecordVerdict}
 use Rattle.record.specs.declared.verdict.RecordVerdict.the-variants as Record
-use Rattle.record.specs.Answer.{recordAnswer}
+use Rattle.record.specs.Figure1.{recordAnswer}
 use Rattle.record.specs.ListAfter.{listAfter}
 use Rattle.exchange.specs.declared.verdict.ExchangeVerdict.{ExchangeVerdict}
-use Rattle.exchange.specs.Answer.{exchangeAnswer}
+use Rattle.exchange.specs.Figure1.{exchangeAnswer}
 use Rattle.line.specs.RefusedLine.{refusedLine}
 use Rattle.line.specs.RecordLine.{recordLine}
 use Rattle.line.specs.ExchangeLine.{exchangeLine}
-use Rattle.line.specs.Printed.{printedLine}
+use Rattle.line.specs.Figure1.{printedLine}
 use Rattle.line.proofs.Line.{Owed, owed-all}
-use Rattle.line.proofs.Printed.{line-of-call}
+use Rattle.line.proofs.Figure1.{line-of-call}
 use Rattle.sentences.specs.declared.verdict.SentencesVerdict.{SentencesVerdict}
 use Rattle.sentences.specs.declared.verdict.SentencesVerdict.the-variants.{Written, Refused}
-use Rattle.sentences.specs.Answer.{recordText, sentencesAnswer, textAfter}
-use Rattle.sentences.specs.Printed.{printedFor, printedText}
-use Rattle.sentences.proofs.Answer.{text-fits}
+use Rattle.sentences.specs.Figure1.{recordText, sentencesAnswer, textAfter, printedFor, printedText}
+use Rattle.sentences.proofs.Figure1.{text-fits}
 
 -- "lends a list of 256 words" (01)
 abbrev lent : List ℕ

@@ -3,12 +3,13 @@
 ghost use Prim.Native.Nat.{_≤_};
 ghost use mathlib.Core.Path.{_≡_};
 ghost use lib.ListN.{length, replicate, take};
-ghost use Rattle.exchange.specs.Answer.{exchangeAnswer};
+ghost use Rattle.exchange.specs.Figure1.{exchangeAnswer};
 ghost use Rattle.line.specs.ExchangeLine.{exchangeLine};
 ghost use Rattle.line.specs.Line.{lineAfter, lineCount};
-ghost use Rattle.line.specs.Printed.{printedLine};
+ghost use Rattle.line.specs.Figure1.{printedLine};
 ghost use Rattle.line.specs.RecordLine.{mostLine};
-ghost use Rattle.sentences.specs.Printed.{mostText, printedText};
+ghost use Rattle.sentences.specs.Printed.{mostText};
+ghost use Rattle.sentences.specs.Figure1.{printedText};
 use basics::limits::MOST_STATEMENTS;
 use exchange_check::check::check_exchange;
 use line_write::exchange_line::write_exchange_line;

@@ -4,3 +4,4 @@ pub mod Sentences
 pub mod WhoCarried
 pub mod Samples
 pub mod Requests
+pub mod Figure1

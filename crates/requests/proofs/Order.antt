@@ -2,6 +2,7 @@
 -- many. Assumes nothing.
 use Prim.Native.Nat.{ℕ}
 use native.Mathlib.Omega.{arith}
+use mathlib.Core.Bool.{Bool}
 use mathlib.Core.Path.{_≡_, sym, ap, subst, _∙_}
 use mathlib.Core.Logic.{Iff·symm, Iff·trans}
 use mathlib.Core.List.{List, [], _∷_, _++_}
@@ -12,6 +13,7 @@ use Rattle.basics.specs.Once.{EachOnce}
 use Rattle.basics.specs.Rising.{Rising}
 use Rattle.basics.proofs.Once.{no-more}
 use Rattle.basics.proofs.Rising.{one-rising}
+use Rattle.logic.specs.Principals.{Relation, Decides}
 use Rattle.signers.proofs.Each.{signers-are}
 use Rattle.signers.specs.Signers as S
 use Rattle.record.specs.declared.verdict.RecordVerdict.{RecordVerdict}
@@ -23,15 +25,14 @@ use Rattle.text.specs.Ascii.{ascii}
 use Rattle.text.specs.Decimal.{decimal}
 use Rattle.line.specs.RecordLine.{listed, recordLine}
 use Rattle.demands.specs.Release.{Signers, GrantedWithSigners}
-use Rattle.demands.proofs.Release.{has-signers}
-use Rattle.demands.proofs.Demands.{demands}
+use Rattle.demands.proofs.Release.{has-signers, granted}
 use Rattle.requests.specs.Order.{SignersRise, ReleaseGrants, OrderNotFree, OnePossibleLine, CountStays}
 
 -- ---- the signers rise
 
-pub signers-rise : SignersRise
-signers-rise file before after answer g =
-    let grant = granted-exactly file (length before) (g .count) .0 (sym (g .answered) ∙ g .granted) in
+pub signers-rise : (speaks : ℕ → ℕ → Bool) (R : Relation) → Decides speaks R → SignersRise speaks R
+signers-rise speaks R decides file before after answer g =
+    let grant = granted-exactly speaks R decides file (length before) (g .count) .0 (sym (g .answered) ∙ g .granted) in
     let counted = grant .counted in
     let list : after ≡ signers file ++ drop (g .count) before = g .list-after
     ∙ ap (λ v. listAfter file v before) (g .granted) in
@@ -39,19 +40,19 @@ signers-rise file before after answer g =
     ap (take (g .count)) list
     ∙ ap (λ (n : ℕ). take n (signers file ++ drop (g .count) before)) counted
     ∙ take-append-seam (signers file) (drop (g .count) before) in (
-      subst (λ l. Signers file l) (sym names) (has-signers (grant .keeps) (grant .is-proof)),
+      subst (λ l. Signers R file l) (sym names) (has-signers speaks R decides (grant .keeps) (grant .is-proof)),
       ap length names ∙ sym counted,
     )
 
-pub release-grants : ReleaseGrants
-release-grants file before after answer answered list release =
-    let g = demands .granted file before after answer answered list release in
+pub release-grants : (speaks : ℕ → ℕ → Bool) (R : Relation) → Decides speaks R → ReleaseGrants speaks R
+release-grants speaks R decides file before after answer answered list release =
+    let g = granted speaks R decides file before after answer answered list release in
     record { answered = answered; list-after = list; count = length (g .names); granted = g .granted }
 
 -- ---- one list
 
-pub order-not-free : OrderNotFree
-order-not-free file names others are also =
+pub order-not-free : (R : Relation) → OrderNotFree R
+order-not-free R file names others are also =
     one-rising names others (are .rising) (also .rising) (λ K. Iff·trans (are .each K) (Iff·symm (also .each K)))
 
 -- Of a list that begins with the signers only these are printed.
@@ -62,19 +63,21 @@ of-names names rest =
     ap (λ (l : List ℕ). ascii "granted " ++ decimal (length names) ++ listed l ++ ascii "\n")
     (take-append-seam names rest ∙ sym (take-all (length names) names (omega arith)))
 
-line-of-names : (file before after : List ℕ) (answer : RecordVerdict) (g : GrantedWithSigners file answer before after)
+line-of-names :
+    (R : Relation) (file before after : List ℕ) (answer : RecordVerdict)
+    (g : GrantedWithSigners R file answer before after)
     → recordLine answer after ≡ recordLine (Granted (length (g .names))) (g .names)
-line-of-names file before after answer g =
+line-of-names R file before after answer g =
     ap (λ (v : RecordVerdict). recordLine v after) (g .granted)
     ∙ ap (recordLine (Granted (length (g .names)))) (g .written)
     ∙ of-names (g .names) (drop (length (g .names)) before)
 
-pub one-possible-line : OnePossibleLine
-one-possible-line file before after before′ after′ answer answer′ g h =
-    let same = order-not-free file (g .names) (h .names) (g .signers) (h .signers) in
-    line-of-names file before after answer g
+pub one-possible-line : (R : Relation) → OnePossibleLine R
+one-possible-line R file before after before′ after′ answer answer′ g h =
+    let same = order-not-free R file (g .names) (h .names) (g .signers) (h .signers) in
+    line-of-names R file before after answer g
     ∙ ap (λ (l : List ℕ). recordLine (Granted (length l)) l) same
-    ∙ sym (line-of-names file before′ after′ answer′ h)
+    ∙ sym (line-of-names R file before′ after′ answer′ h)
 
 -- ---- as many in any order
 

@@ -2,49 +2,49 @@
 use Rattle.record.proofs.Carries.{signers-carry}
 use Rattle.record.proofs.Former.{archive-kept, former-signers-spelled, former-eight}
 use Rattle.record.proofs.Samples.{former-samples}
-use Rattle.steps.proofs.Figure1.{count-per-rule, premises-counted, premises-of-derivation}
+use Rattle.steps.proofs.PremiseCounts.{count-per-rule, premises-counted, premises-of-derivation}
 use Rattle.line.proofs.Printed.{one-line, line-of-grant}
 use Rattle.sentences.proofs.Text.{text-of-derivation, line-per-step, same-lines, same-text}
 use Rattle.sentences.proofs.Feeds.{feed-per-line}
 use Rattle.sentences.proofs.Samples.{text-of-a, other-numbers, text-of-every-rule, answers, lent-after}
-use Rattle.requests.specs.Requests.{Requests}
+use Rattle.requests.specs.Requests.{ForEveryRelation}
 use Rattle.requests.proofs.Order.{signers-rise, release-grants, order-not-free, one-possible-line, count-stays}
 use Rattle.requests.proofs.Sentences.{release-written, else-refused}
 use Rattle.requests.proofs.WhoCarried.{eight-counts, eight-of-sentences, eight-stands}
 use Rattle.requests.proofs.Samples.{in-order, only-who-carried}
 
-pub requests : Requests
-requests = record {
-  signers-rise = signers-rise;
-  release-grants = release-grants;
-  order-not-free = order-not-free;
-  one-possible-line = one-possible-line;
-  one-line = one-line;
-  line-of-grant = line-of-grant;
+pub for-every-relation : ForEveryRelation
+for-every-relation speaks R lawful = record {
+  signers-rise = signers-rise speaks R (lawful .decides);
+  release-grants = release-grants speaks R (lawful .decides);
+  order-not-free = order-not-free R;
+  one-possible-line = one-possible-line R;
+  one-line = one-line speaks;
+  line-of-grant = line-of-grant speaks;
   count-stays = count-stays;
   in-order = in-order;
-  text-of-derivation = text-of-derivation;
-  line-per-step = line-per-step;
+  text-of-derivation = text-of-derivation speaks R (lawful .decides);
+  line-per-step = line-per-step speaks R (lawful .decides);
   feed-per-line = feed-per-line;
   text-of-a = text-of-a;
   text-of-every-rule = text-of-every-rule;
-  same-text = same-text;
-  same-lines = same-lines;
+  same-text = same-text R;
+  same-lines = same-lines R;
   other-numbers = other-numbers;
-  release-written = release-written;
-  else-refused = else-refused;
+  release-written = release-written speaks R (lawful .decides);
+  else-refused = else-refused speaks R (lawful .decides);
   answers = answers;
   lent-after = lent-after;
-  signers-carry = signers-carry;
+  signers-carry = signers-carry speaks R (lawful .decides);
   only-who-carried = only-who-carried;
-  eight-counts = eight-counts;
-  eight-of-sentences = eight-of-sentences;
+  eight-counts = eight-counts speaks R (lawful .decides);
+  eight-of-sentences = eight-of-sentences speaks R (lawful .decides);
   eight-stands = eight-stands;
   archive-kept = archive-kept;
   former-signers-spelled = former-signers-spelled;
   former-eight = former-eight;
   former-samples = former-samples;
-  count-per-rule = count-per-rule;
-  premises-counted = premises-counted;
-  premises-of-derivation = premises-of-derivation;
+  count-per-rule = count-per-rule speaks;
+  premises-counted = premises-counted speaks;
+  premises-of-derivation = premises-of-derivation R;
 }

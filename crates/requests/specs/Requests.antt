@@ -1,9 +1,15 @@
--- What document 02 asks for, request by request, sentence by sentence, as one promise. Proved in proofs/Requests.antt.
+-- What document 02 asks for, request by request, sentence by sentence, as one promise, for a test `speaks` on
+-- principals and a relation R. Until job 14 lands 02 means Figure 1, "the same K" and equality: that is `Requested`
+-- (Figure1.antt). Samples, and what became of the answer that 01 gave, are Figure 1's whatever these are. Proved in
+-- proofs/Requests.antt.
 -- `Grants` is a call that grants a file: its answer and its list are what the contract of `check_record` says, as for
 -- every release. `Call` is any call of `write_sentences`. Assumes nothing.
+use Prim.Native.Nat.{ℕ}
+use mathlib.Core.Bool.{Bool}
+use Rattle.logic.specs.Principals.{Relation, Lawful}
 use Rattle.record.specs.Carries.{SignersCarry}
 use Rattle.record.specs.Former.{FormerSignersSpelled, FormerEight, ArchiveKept, FormerSamples}
-use Rattle.steps.specs.Figure1.{CountPerRule, PremisesCounted, PremisesOfDerivation}
+use Rattle.steps.specs.PremiseCounts.{CountPerRule, PremisesCounted, PremisesOfDerivation}
 use Rattle.line.specs.Printed.{OneLine, LineOfGrant}
 use Rattle.sentences.specs.Promises.{TextOfDerivation, LinePerStep, SameLines, SameText}
 use Rattle.sentences.specs.Feeds.{FeedPerLine}
@@ -13,45 +19,45 @@ use Rattle.requests.specs.Sentences.{ReleaseWritten, ElseRefused}
 use Rattle.requests.specs.WhoCarried.{EightCounts, EightOfSentences, EightStands}
 use Rattle.requests.specs.Samples.{InOrder, OnlyWhoCarried}
 
-pub record Requests : Type 0 where
+pub record Requests (speaks : ℕ → ℕ → Bool) (R : Relation) : Type 0 where
   -- Job 1. "Signers shall stand in rising principal number."
-  pub signers-rise : SignersRise
-  pub release-grants : ReleaseGrants
+  pub signers-rise : SignersRise speaks R
+  pub release-grants : ReleaseGrants speaks R
   -- "Their order is then no longer a free part,
-  pub order-not-free : OrderNotFree
+  pub order-not-free : OrderNotFree R
   -- and a granted record has one possible line." It is the one that the program prints.
-  pub one-possible-line : OnePossibleLine
-  pub one-line : OneLine
-  pub line-of-grant : LineOfGrant
+  pub one-possible-line : OnePossibleLine R
+  pub one-line : OneLine speaks
+  pub line-of-grant : LineOfGrant speaks
   -- As many are counted as before, and the samples.
   pub count-stays : CountStays
   pub in-order : InOrder
   -- Job 2. "Write a granted record's proof as text, one line a step: the step number, the rule's name, the named
   -- formula if any, the word for, and the goal." (sentences/specs/Sentences.antt)
-  pub text-of-derivation : TextOfDerivation
-  pub line-per-step : LinePerStep
+  pub text-of-derivation : TextOfDerivation speaks R
+  pub line-per-step : LinePerStep speaks R
   pub feed-per-line : FeedPerLine
   -- "Record A gives .." 02's four lines; and every rule, with its name.
   pub text-of-a : TextOfA
   pub text-of-every-rule : TextOfEveryRule
   -- "Two granted records have equal texts only if their goals are the same formula and their steps apply the same rules
   -- to the same formulas, whichever numbers the tables use": and if they do.
-  pub same-text : SameText
-  pub same-lines : SameLines
+  pub same-text : SameText R
+  pub same-lines : SameLines R
   pub other-numbers : OtherNumbers
   -- "The signers' list is lent and filled too."
-  pub release-written : ReleaseWritten
+  pub release-written : ReleaseWritten speaks R
   -- "Refused: 16, after 15, the lent bytes are fewer than the whole text; place 0."
-  pub else-refused : ElseRefused
+  pub else-refused : ElseRefused speaks R
   pub answers : Answers
   pub lent-after : LentAfter
   -- Job 3. "A paper that lay unused makes no signer. A signer is now a principal K with a statement K says A that some
   -- says-left step names": over the derivation that the words are, and samples.
-  pub signers-carry : SignersCarry
+  pub signers-carry : SignersCarry R
   pub only-who-carried : OnlyWhoCarried
   -- "Refusal 8 counts these and is tested after 15 and before 16."
-  pub eight-counts : EightCounts
-  pub eight-of-sentences : EightOfSentences
+  pub eight-counts : EightCounts speaks R
+  pub eight-of-sentences : EightOfSentences speaks R
   pub eight-stands : EightStands
   -- "Records in the archive keep their granted or refused, save that a short list may now suffice": against the answer
   -- that 01 gave.
@@ -60,7 +66,11 @@ pub record Requests : Type 0 where
   pub former-eight : FormerEight
   pub former-samples : FormerSamples
   -- Job 4. "How many premises a step opens .. the number of premises that stand there": of each step that isn't
-  -- refused, and of each derivation in Figure 1.
-  pub count-per-rule : CountPerRule
-  pub premises-counted : PremisesCounted
-  pub premises-of-derivation : PremisesOfDerivation
+  -- refused, and of each derivation.
+  pub count-per-rule : CountPerRule speaks
+  pub premises-counted : PremisesCounted speaks
+  pub premises-of-derivation : PremisesOfDerivation R
+
+-- For every test that decides a reflexive and transitive relation.
+abbrev pub ForEveryRelation : Type 1
+ForEveryRelation = (speaks : ℕ → ℕ → Bool) (R : Relation) → Lawful speaks R → Requests speaks R

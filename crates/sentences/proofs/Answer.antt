@@ -14,6 +14,7 @@ use Rattle.basics.specs.Choice.{pick}
 use Rattle.basics.specs.Refusals.{Test, test, at0, firstRefusal, unlessRefused}
 use Rattle.basics.proofs.Asked.{not-less}
 use Rattle.basics.proofs.Refusals.{joined-refused, joined-passed}
+use Rattle.logic.specs.Principals.{Relation, Decides}
 use Rattle.record.specs.declared.verdict.RecordVerdict.{RecordVerdict}
 use Rattle.record.specs.declared.verdict.RecordVerdict.the-variants as Verdict
 use Rattle.record.specs.Layout.{signers}
@@ -28,30 +29,31 @@ use Rattle.sentences.proofs.Text.{text-of-derivation}
 
 -- ---- after the record's tests
 
-module _ (file : List ℕ) (room bytes : ℕ) where
+module _ (speaks : ℕ → ℕ → Bool) (file : List ℕ) (room bytes : ℕ) where
   abbrev pub last : Test
-  last = test 16 (textShort file bytes)
+  last = test 16 (textShort speaks file bytes)
 
   abbrev answered : Tested → SentencesVerdict
-  answered t = unlessRefused Refused t (Written (length (signers file)) (length (recordText file)))
+  answered t = unlessRefused Refused t (Written (length (signers file)) (length (recordText speaks file)))
 
   -- 16 alone
   by-last : (short : Bool) → answered (firstRefusal (test 16 (at0 short) ∷ []))
-      ≡ pick short (Refused 16 0) (Written (length (signers file)) (length (recordText file)))
+      ≡ pick short (Refused 16 0) (Written (length (signers file)) (length (recordText speaks file)))
   unfolding firstRefusal
   by-last true = refl
   by-last false = refl
 
-  after-tests : (t : Tested) → firstRefusal (Record.tests file room) ≡ t
-      → answered (firstRefusal (tests file room bytes))
-      ≡ afterRecord file bytes (unlessRefused Verdict.Refused t (Verdict.Granted (length (signers file))))
-  after-tests Outcome.Passed e = ap answered (joined-passed (Record.tests file room) (last ∷ []) e)
-      ∙ by-last (ltb bytes (length (recordText file)))
-  after-tests (Outcome.Refused number p) e = ap answered (joined-refused (Record.tests file room) (last ∷ []) e)
+  after-tests : (t : Tested) → firstRefusal (Record.tests speaks file room) ≡ t
+      → answered (firstRefusal (tests speaks file room bytes))
+      ≡ afterRecord speaks file bytes (unlessRefused Verdict.Refused t (Verdict.Granted (length (signers file))))
+  after-tests Outcome.Passed e = ap answered (joined-passed (Record.tests speaks file room) (last ∷ []) e)
+      ∙ by-last (ltb bytes (length (recordText speaks file)))
+  after-tests (Outcome.Refused number p) e = ap answered (joined-refused (Record.tests speaks file room) (last ∷ []) e)
 
-pub answer-after-record : AnswerAfterRecord
+pub answer-after-record : (speaks : ℕ → ℕ → Bool) → AnswerAfterRecord speaks
 unfolding sentencesAnswer recordAnswer
-answer-after-record file room bytes = after-tests file room bytes (firstRefusal (Record.tests file room)) refl
+answer-after-record speaks file room bytes =
+    after-tests speaks file room bytes (firstRefusal (Record.tests speaks file room)) refl
 
 -- ---- what is written
 
@@ -64,42 +66,45 @@ not-granted : {number p count : ℕ} → Verdict.Refused number p ≡ Verdict.Gr
 not-granted e = let z : _≡_ {A = ℕ} 0 1 = cc in omega arith
 
 -- Written: the record is granted, and its text fits.
-module _ (file : List ℕ) (bytes count written : ℕ) where
+module _ (speaks : ℕ → ℕ → Bool) (file : List ℕ) (bytes count written : ℕ) where
   decided : (short : Bool) (n size : ℕ) → pick short (Refused 16 0) (Written n size) ≡ Written count written
       ↔ ((short ≡ false) × (n ≡ count) × (size ≡ written))
   decided true n size = (λ e. absurd (not-written e), λ (e, _, _). absurd (true≢false e))
   decided false n size = (λ e. (refl, cc, cc), λ (_, e, f). cc)
 
-  writes : (v : RecordVerdict) → afterRecord file bytes v ≡ Written count written
-      ↔ ((v ≡ Verdict.Granted count) × (length (recordText file) ≤ bytes) × (written ≡ length (recordText file)))
+  writes : (v : RecordVerdict) → afterRecord speaks file bytes v ≡ Written count written
+      ↔ ((v ≡ Verdict.Granted count) × (length (recordText speaks file) ≤ bytes)
+      × (written ≡ length (recordText speaks file)))
   writes (Verdict.Granted n) =
-      let (to, from) = decided (ltb bytes (length (recordText file))) n (length (recordText file)) in
-      let (fits, unfit) = not-less bytes (length (recordText file)) in (
+      let (to, from) = decided (ltb bytes (length (recordText speaks file))) n (length (recordText speaks file)) in
+      let (fits, unfit) = not-less bytes (length (recordText speaks file)) in (
         λ e. let (low, same, size) = to e in (ap Verdict.Granted same, fits low, sym size),
         λ (e, low, size). from (unfit low, (let same : n ≡ count = cc in same), sym size),
       )
   writes (Verdict.Refused number p) = (λ e. absurd (not-written e), λ (e, _, _). absurd (not-granted e))
 
 -- So a text that is written fits.
-pub text-fits : (file : List ℕ) (room bytes count written : ℕ) → sentencesAnswer file room bytes ≡ Written count written
-    → (length (recordText file) ≤ bytes) × (written ≡ length (recordText file))
-text-fits file room bytes count written e =
-    let (_, fits, size) = writes file bytes count written (recordAnswer file room) .0
-    (sym (answer-after-record file room bytes) ∙ e) in (fits, size)
+pub text-fits :
+    (speaks : ℕ → ℕ → Bool) (file : List ℕ) (room bytes count written : ℕ)
+    → sentencesAnswer speaks file room bytes ≡ Written count written
+    → (length (recordText speaks file) ≤ bytes) × (written ≡ length (recordText speaks file))
+text-fits speaks file room bytes count written e =
+    let (_, fits, size) = writes speaks file bytes count written (recordAnswer speaks file room) .0
+    (sym (answer-after-record speaks file room bytes) ∙ e) in (fits, size)
 
-pub written-exactly : WrittenExactly
-written-exactly file room bytes count written =
-    let (to, from) = writes file bytes count written (recordAnswer file room) in
-    let after = answer-after-record file room bytes in
-    let (says, grants) = granted-exactly file room count in (
+pub written-exactly : (speaks : ℕ → ℕ → Bool) (R : Relation) → Decides speaks R → WrittenExactly speaks R
+written-exactly speaks R decides file room bytes count written =
+    let (to, from) = writes speaks file bytes count written (recordAnswer speaks file room) in
+    let after = answer-after-record speaks file room bytes in
+    let (says, grants) = granted-exactly speaks R decides file room count in (
       λ e.
           let (granted, low, size) = to (sym after ∙ e) in
           let grant = says granted in
-          let text = ap length (text-of-derivation file (grant .keeps) (grant .is-proof)) in
+          let text = ap length (text-of-derivation speaks R decides file (grant .keeps) (grant .is-proof)) in
           record { grant = grant; fits = omega (arith, text); counted = size ∙ text },
       λ w.
           let grant = w .grant in
           let low = w .fits in
-          let text = ap length (text-of-derivation file (grant .keeps) (grant .is-proof)) in
+          let text = ap length (text-of-derivation speaks R decides file (grant .keeps) (grant .is-proof)) in
           after ∙ from (grants grant, omega (arith, text), w .counted ∙ sym text),
     )

@@ -7,5 +7,6 @@ pub mod Answer
 pub mod Refused
 pub mod Small
 pub mod Printed
+pub mod Figure1
 pub mod Samples
 pub mod Feeds

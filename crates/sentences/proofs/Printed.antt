@@ -1,6 +1,7 @@
 -- The whole text or line is written (specs/Printed.antt). Assumes nothing.
 use Prim.Native.Nat.{ℕ, _≤_}
 use native.Mathlib.Omega.{arith}
+use mathlib.Core.Bool.{Bool}
 use mathlib.Core.Path.{_≡_, refl, subst}
 use mathlib.Core.List.{List}
 use lib.ListN.{length}
@@ -17,15 +18,15 @@ use Rattle.sentences.proofs.Answer.{text-fits}
 use Rattle.sentences.proofs.Small.{answers-small}
 
 -- A text that is written fits the bytes that are lent, and a refusal's line fits where there is room for any line.
-fits : (file : List ℕ) (bytes : ℕ) → mostLine ≤ bytes → (v : SentencesVerdict)
-    → sentencesAnswer file mostStatements bytes ≡ v
-    → length (printedFor file v) ≤ bytes
-fits file bytes room (Written count written) e = text-fits file mostStatements bytes count written e .0
-fits file bytes room (Refused number place) e =
-    let (least, most, within) = subst (Small bytes) e (answers-small file mostStatements bytes) in
+fits : (speaks : ℕ → ℕ → Bool) (file : List ℕ) (bytes : ℕ) → mostLine ≤ bytes → (v : SentencesVerdict)
+    → sentencesAnswer speaks file mostStatements bytes ≡ v
+    → length (printedFor speaks file v) ≤ bytes
+fits speaks file bytes room (Written count written) e = text-fits speaks file mostStatements bytes count written e .0
+fits speaks file bytes room (Refused number place) e =
+    let (least, most, within) = subst (Small bytes) e (answers-small speaks file mostStatements bytes) in
     omega (arith, refused-fits number place (omega arith) within)
 
-pub whole-text : WholeText
-whole-text file before count after counted is room =
-    fits-whole before (printedText file (length before))
-    (fits file (length before) room (sentencesAnswer file mostStatements (length before)) refl) counted is
+pub whole-text : (speaks : ℕ → ℕ → Bool) → WholeText speaks
+whole-text speaks file before count after counted is room =
+    fits-whole before (printedText speaks file (length before))
+    (fits speaks file (length before) room (sentencesAnswer speaks file mostStatements (length before)) refl) counted is

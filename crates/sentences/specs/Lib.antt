@@ -8,4 +8,5 @@ pub mod Told
 pub mod Answer
 pub mod Promises
 pub mod Printed
+pub mod Figure1
 pub mod Samples

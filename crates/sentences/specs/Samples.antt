@@ -9,7 +9,8 @@ use Rattle.file.specs.Words.{fileOf}
 use Rattle.record.specs.Samples.{overT, bytesOfA}
 use Rattle.sentences.specs.declared.verdict.SentencesVerdict.{SentencesVerdict}
 use Rattle.sentences.specs.declared.verdict.SentencesVerdict.the-variants.{Written, Refused}
-use Rattle.sentences.specs.Answer.{recordText, sentencesAnswer, signersAfter, textAfter}
+use Rattle.sentences.specs.Answer.{signersAfter}
+use Rattle.sentences.specs.Figure1.{recordText, sentencesAnswer, textAfter}
 
 -- "Record A gives `0 says right for (p7 says a0)`, `1 says left (p7 says a0) for p7 affirms a0`, `2 affirm for p7
 -- affirms a0`, `3 init a0 for a0`, each ended by a line feed." (02)

@@ -12,7 +12,7 @@ use Rattle.basics.specs.declared.tested.Tested.{Tested}
 use Rattle.basics.specs.declared.tested.Tested.the-variants as Outcome
 use Rattle.basics.specs.declared.tested.Tested.the-variants.{Passed}
 use Rattle.basics.specs.Choice.{pick}
-use Rattle.basics.specs.Limits.{mostFormulas, mostSteps}
+use Rattle.basics.specs.Limits.{mostFormulas, mostSteps, mostDepth}
 use Rattle.basics.specs.Refusals.{firstRefusal, unlessRefused}
 use Rattle.basics.specs.Written.{written, writtenAt}
 use Rattle.basics.proofs.Asked.{at0-nowhere, not-less, not-other}
@@ -60,7 +60,9 @@ module _ (heads seconds statements : List ℕ) (goal : ℕ) (steps : List ℕ) (
         (contentTests heads seconds statements goal steps room) .0 (sym judged ∙ passed) in
         let (q, closed) = walked-nowhere (run (entries heads seconds) steps (obligation statements goal ∷ [])) .0
         walk in
-        closed ∙ ap Closed (closed-uses-all (entries heads seconds) (obligation statements goal ∷ []) steps q closed)
+        closed
+        ∙ ap Closed
+        (closed-uses-all mostDepth (entries heads seconds) (obligation statements goal ∷ []) steps q closed)
 
 zero-then : (n : ℕ) → 0 + n ≡ n
 zero-then n = omega arith

@@ -22,8 +22,9 @@ use Rattle.record_check.specs.Parts.{contentTests}
 use Rattle.record_check.proofs.Whole.{layout-refused, parts-of-record}
 use Rattle.sentences.specs.declared.verdict.SentencesVerdict.{SentencesVerdict}
 use Rattle.sentences.specs.declared.verdict.SentencesVerdict.the-variants.{Written, Refused}
-use Rattle.sentences.specs.Answer.{recordText, sentencesAnswer, signersAfter, textAfter, afterRecord}
-use Rattle.sentences.proofs.Answer.{answer-after-record, text-fits, written-exactly}
+use Rattle.sentences.specs.Answer.{signersAfter}
+use Rattle.sentences.specs.Figure1.{recordText, sentencesAnswer, textAfter, afterRecord}
+use Rattle.sentences.proofs.Figure1.{answer-after-record, text-fits, written-exactly}
 use Rattle.sentences_write.specs.Arrays.{arraysAnswer, listWritten, textWritten}
 
 module _ (file : List ℕ) where

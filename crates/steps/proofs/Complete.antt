@@ -12,7 +12,7 @@ use Rattle.basics.proofs.Membership.{first, added}
 use Rattle.basics.specs.Limits.{mostFormulas}
 use Rattle.logic.specs.Proposition.{Proposition, atom, false, _implies_, _and_, _or_, _says_}
 use Rattle.logic.specs.Judgment.{Judgment, truth, _affirms_}
-use Rattle.logic.specs.Principals.{Relation}
+use Rattle.logic.specs.Principals.{Relation, Decides}
 use Rattle.logic.specs.Derivation.{Derivation, init, affirm, implies-right, implies-left, false-left, and-right, and-left, or-right-first, or-right-second, or-left, says-right, says-left}
 use Rattle.logic.specs.Depth.{depth}
 use Rattle.logic.proofs.Depth.{steps}
@@ -22,7 +22,7 @@ use Rattle.table.specs.Laws.{Ordered, Distinct}
 use Rattle.steps.specs.Obligation.{Obligation, alone, adding, addingBoth}
 use Rattle.steps.specs.Words.{words}
 use Rattle.steps.specs.Carried.{Carried, InTable}
-use Rattle.steps.specs.Runs.{Decides, Closes}
+use Rattle.steps.specs.Runs.{Closes}
 use Rattle.steps.specs.Trace.{lines, linesOf}
 use Rattle.steps.proofs.Uses.{Uses, nothing, joined, closed, one, two, closes}
 use Rattle.steps.proofs.Has.{Passed, formulaOf, entry-of}

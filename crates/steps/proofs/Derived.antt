@@ -8,7 +8,7 @@ use Rattle.basics.specs.Membership.{_∈_}
 use Rattle.basics.specs.Word.{word}
 use Rattle.logic.specs.Proposition.{Proposition}
 use Rattle.logic.specs.Judgment.{Judgment, truth}
-use Rattle.logic.specs.Principals.{Relation}
+use Rattle.logic.specs.Principals.{Relation, Decides}
 use Rattle.logic.specs.Derivation.{Derivation}
 use Rattle.logic.specs.Depth.{stepDepths}
 use Rattle.table.specs.declared.entry.Entry.{Entry}
@@ -23,7 +23,6 @@ use Rattle.steps.specs.declared.opened.Premise.{Premise}
 use Rattle.steps.specs.Obligation.{added}
 use Rattle.steps.specs.Words.{words}
 use Rattle.steps.specs.Carried.{judgment}
-use Rattle.steps.specs.Runs.{Decides}
 use Rattle.steps.specs.Applies.{Named, Applies, init, affirm, implies-right, implies-left, false-left, and-right, and-left, or-right-first, or-right-second, or-left, says-right, says-left}
 use Rattle.steps.proofs.Chain.{Chain}
 use Rattle.steps.proofs.Begins.{Begins, nothing, first, both, ends}

@@ -24,7 +24,8 @@ pub mod Trace
 pub mod PremiseCounts
 pub mod ByWord
 pub mod Naming
-pub mod Figure1
+pub mod OverTable
 pub mod Answer
+pub mod Figure1
 pub mod Samples
 pub mod EachRule

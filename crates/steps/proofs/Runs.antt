@@ -1,8 +1,8 @@
 -- Runs are derivations, both directions (specs/Runs.antt). Assumes nothing.
 use Prim.Native.Nat.{ℕ}
 use mathlib.Core.Bool.{Bool}
-use Rattle.logic.specs.Principals.{Relation}
-use Rattle.steps.specs.Runs.{Decides, RunsAreDerivations}
+use Rattle.logic.specs.Principals.{Relation, Decides}
+use Rattle.steps.specs.Runs.{RunsAreDerivations}
 use Rattle.steps.proofs.Sound.{sound}
 use Rattle.steps.proofs.Complete.{complete}
 

@@ -11,7 +11,7 @@ use lib.ListN.{length, drop-of-length-le}
 use Rattle.basics.proofs.Words.{word-of-both}
 use Rattle.basics.proofs.Membership.{⊆-left, ⊆-right}
 use Rattle.logic.specs.Proposition.{Proposition}
-use Rattle.logic.specs.Principals.{Relation}
+use Rattle.logic.specs.Principals.{Relation, Decides}
 use Rattle.table.specs.declared.entry.Entry.{Entry}
 use Rattle.table.specs.Spelled.{spell, spellAll}
 use Rattle.table.specs.Laws.{Ordered, Distinct}
@@ -20,7 +20,7 @@ use Rattle.steps.specs.declared.verdict.WalkVerdict.the-variants.{Closed
 use Rattle.steps.specs.Obligation.{Obligation, added, under}
 use Rattle.steps.specs.Run.{walk}
 use Rattle.steps.specs.Carried.{judgment, Carried}
-use Rattle.steps.specs.Runs.{Decides, Closes}
+use Rattle.steps.specs.Runs.{Closes}
 use Rattle.steps.specs.Applies.{Takes}
 use Rattle.steps.proofs.Closed.{refused-not-closed, walk-closed, run-closed}
 use Rattle.steps.proofs.Chain.{Chain, chain-append, chain-map}

@@ -7,7 +7,7 @@ use mathlib.Core.Bool.{Bool}
 use mathlib.Core.Path.{_≡_}
 use mathlib.Core.List.{List, [], _∷_, _++_, map}
 use lib.ListN.{length}
-use Rattle.logic.specs.Principals.{Relation}
+use Rattle.logic.specs.Principals.{Relation, Decides}
 use Rattle.table.specs.declared.entry.Entry.{Entry}
 use Rattle.steps.specs.declared.opened.Premise.{Premise}
 use Rattle.steps.specs.declared.opened.Opened as O
@@ -17,7 +17,6 @@ use Rattle.steps.specs.declared.verdict.WalkVerdict.the-variants.{Closed
 use Rattle.steps.specs.Obligation.{Obligation, under}
 use Rattle.steps.specs.Step.{step}
 use Rattle.steps.specs.Run.{after, walk}
-use Rattle.steps.specs.Runs.{Decides}
 use Rattle.steps.specs.Trace.{Line, trace, LinePerWord, TraceIsDerivations}
 use Rattle.steps.proofs.Closed.{refused-not-closed, run-closed}
 use Rattle.steps.proofs.Uses.{traced}

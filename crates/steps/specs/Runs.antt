@@ -1,7 +1,7 @@
 -- Runs are derivations: the theorem behind demands 2 and 3, for a test on principals and the relation that it decides,
 -- and for any limit on depth. Proved in proofs/Runs.antt. Assumes nothing.
 use Prim.Native.Nat.{ℕ, _≤_}
-use mathlib.Core.Bool.{Bool, true}
+use mathlib.Core.Bool.{Bool}
 use mathlib.Core.Path.{_≡_}
 use mathlib.Core.Logic.{_↔_}
 use mathlib.Core.List.{List}
@@ -15,10 +15,6 @@ use Rattle.steps.specs.declared.verdict.WalkVerdict.the-variants.{Closed
 use Rattle.steps.specs.Obligation.{Obligation}
 use Rattle.steps.specs.Run.{run}
 use Rattle.steps.specs.Carried.{Carried, InTable}
-
--- the test says true exactly where the relation holds
-abbrev pub Decides : (ℕ → ℕ → Bool) → Relation → Type 0
-Decides speaks R = (K L : ℕ) → speaks K L ≡ true ↔ R K L
 
 -- The words are used up and nothing is left to prove.
 abbrev pub Closes : (ℕ → ℕ → Bool) → ℕ → List Entry → List Obligation → List ℕ → Type 0

@@ -1,7 +1,7 @@
 // The check of proofs from one list of statements, one after another from the first of the step words that are lent.
 ghost use mathlib.Core.Path.{_≡_};
 ghost use Rattle.table.specs.Tests.{entries};
-ghost use Rattle.steps.specs.Answer.{proofAnswer, proofsAnswer};
+ghost use Rattle.steps.specs.Figure1.{proofAnswer, proofsAnswer};
 ghost use Rattle.walk.specs.Walks as Walks;
 use crate::walk::Walk;
 use crate::walk::Walked;

@@ -3,7 +3,7 @@
 use borrow.Author.Needs.{needs}
 use mathlib.Core.Path.{sym, ap, subst, _∙_}
 use Rattle.exchange.specs.Promises.{Small}
-use Rattle.exchange.proofs.Small.{answers-small}
+use Rattle.exchange.proofs.Figure1.{answers-small}
 use Rattle.ffi.specs.ExchangeCode.{exchangeCode}
 use Rattle.ffi.proofs.wethrynda_check_exchange.Statement.{statement}
 use Rattle.ffi.proofs.wethrynda_check_exchange.Tie as tie

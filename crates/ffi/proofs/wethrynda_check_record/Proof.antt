@@ -5,7 +5,7 @@ use mathlib.Core.Path.{sym, ap, subst, _∙_}
 use Rattle.record.specs.declared.verdict.RecordVerdict.{RecordVerdict}
 use Rattle.record.specs.ListAfter.{listAfter}
 use Rattle.record.specs.Promises.{Small}
-use Rattle.record.proofs.Small.{answers-small}
+use Rattle.record.proofs.Figure1.{answers-small}
 use Rattle.ffi.specs.Code.{answerCode}
 use Rattle.ffi.proofs.wethrynda_check_record.Statement.{statement}
 use Rattle.ffi.proofs.wethrynda_check_record.Tie as tie

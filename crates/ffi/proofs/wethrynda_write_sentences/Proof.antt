@@ -5,8 +5,9 @@ use borrow.Author.Needs.{needs}
 use mathlib.Core.Path.{sym, ap, subst, _∙_}
 use lib.ListN.{length}
 use Rattle.sentences.specs.declared.verdict.SentencesVerdict.{SentencesVerdict}
-use Rattle.sentences.specs.Answer.{sentencesAnswer, signersAfter, textAfter}
-use Rattle.sentences.proofs.Small.{answers-small}
+use Rattle.sentences.specs.Answer.{signersAfter}
+use Rattle.sentences.specs.Figure1.{sentencesAnswer, textAfter}
+use Rattle.sentences.proofs.Figure1.{answers-small}
 use Rattle.ffi.specs.SentencesCode.{sentencesCode, countAfter, PlaceWithin}
 use Rattle.ffi.proofs.SentencesTells.{small-within}
 use Rattle.ffi.proofs.wethrynda_write_sentences.Statement.{statement}

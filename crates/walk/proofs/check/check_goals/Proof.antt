@@ -6,7 +6,7 @@ use mathlib.Core.Path.{_≡_, refl, sym, _∙_}
 use lib.ListN.{length}
 use borrow.Author.Needs.{needs}
 use Rattle.table.specs.Tests.{entries}
-use Rattle.steps.specs.Answer.{proofsAnswer}
+use Rattle.steps.specs.Figure1.{proofsAnswer}
 use Rattle.walk.specs.Walks.{Holding}
 use Rattle.walk.proofs.Held.{holding-kept}
 use Rattle.walk.proofs.Many.{Checked, verdictFrom, goals-end, goal-closed, goal-refused, closed-inside, refused-inside}
