@@ -1,0 +1,3 @@
+-- The theorems whose statements are in specs/.
+pub mod Speaks
+pub mod Samples

@@ -1,0 +1,1 @@
+// Who speaks for whom, by pairs of a deputy and a principal: definitions and theorems, no code yet (02, job 14).
