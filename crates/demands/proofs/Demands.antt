@@ -14,6 +14,10 @@ use Rattle.exchange.proofs.Force.{force-by-statements, goal-kept}
 use Rattle.exchange.proofs.Equal.{equal-exactly, equal-only-in-force}
 use Rattle.exchange.proofs.Reasons.{refused-exactly}
 use Rattle.exchange.proofs.Kept.{never-six-or-eight}
+use Rattle.encoding.proofs.Record.{every-proof-has-a-record}
+use Rattle.encoding.proofs.Released.{released-exactly}
+use Rattle.encoding.proofs.Exchange.{every-exchange-has-a-file}
+use Rattle.encoding.proofs.Exchanged.{exchanged-exactly}
 use Rattle.line.proofs.Printed.{line-of-call, whole-line, whole-exchange-line}
 use Rattle.demands.specs.Demands.{ForEveryRelation, FirstOfExchange}
 use Rattle.demands.proofs.Release as Release
@@ -43,10 +47,14 @@ for-every-relation speaks R lawful =
       never-both = Release.never-both speaks R decides;
       one-first = Release.one-first speaks R decides;
       nothing-else = Release.nothing-else speaks R decides;
+      every-proof = every-proof-has-a-record speaks R decides;
+      released-exactly = released-exactly speaks R decides;
       printed = whole-line speaks;
       printed-of-call = line-of-call speaks;
       force-by-statements = force-by-statements R reflexive transitive;
       equal-exactly = λ file answer is. same-answer speaks file is (equal-exactly speaks R decides file);
+      every-exchange = every-exchange-has-a-file speaks R decides;
+      exchanged-exactly = exchanged-exactly speaks R decides;
       equal-only-in-force = equal-only-in-force speaks R lawful;
       exchange-refused = λ file answer is number p. same-answer speaks file is (refused-exactly speaks file number p);
       exchange-either = λ file. exchange-decided speaks R decides file (exchangeAnswer speaks file) refl;

@@ -26,6 +26,8 @@ use Rattle.exchange.specs.Force as Force
 use Rattle.exchange.specs.Promises.{EqualOnlyInForce, NeverSixOrEight}
 use Rattle.exchange.specs.Proofs as Proofs
 use Rattle.exchange.specs.Reasons as Reasons
+use Rattle.encoding.specs.Record.{EveryProofHasARecord, ReleasedExactly}
+use Rattle.encoding.specs.Exchange.{EveryExchangeHasAFile, ExchangedExactly}
 use Rattle.line.specs.Printed.{LineOfCall, WholeLine, WholeExchangeLine}
 use Rattle.demands.specs.Release.{Release, GrantedWithSigners, First, RefusedUntouched}
 use Rattle.demands.specs.OldReleases.{KeptByForce, KeptByExchange, OldReleasesKept}
@@ -65,6 +67,11 @@ pub record Demands (speaks : ℕ → ℕ → Bool) (R : Relation) : Type 0 where
   pub nothing-else :
       (file : List ℕ) (room count : ℕ) (answer : RecordVerdict)
       → answer ≡ recordAnswer speaks file room → answer ≡ Granted count → Release R file room
+  -- "every such proof", said of derivations and 01's numbers alone: each derivation within them has a record that is
+  -- granted with its signers wherever these fit, and some record of a goal and statements is granted exactly when there
+  -- is such a derivation.
+  pub every-proof : EveryProofHasARecord speaks R
+  pub released-exactly : ReleasedExactly speaks R
   -- What `record_line` writes, where there is room for the longest line, is the line of such a call with 256 words lent.
   pub printed : WholeLine speaks
   pub printed-of-call : LineOfCall speaks
@@ -76,6 +83,9 @@ pub record Demands (speaks : ℕ → ℕ → Bool) (R : Relation) : Type 0 where
   pub equal-exactly :
       (file : List ℕ) (answer : ExchangeVerdict) → answer ≡ exchangeAnswer speaks file
       → answer ≡ Exchange.Equal ↔ (Proofs.Keeps file × Proofs.CarriesAll R file)
+  -- (and two lists have such a file exactly when they have all these proofs within 01's numbers)
+  pub every-exchange : EveryExchangeHasAFile speaks R
+  pub exchanged-exactly : ExchangedExactly speaks R
   -- and so only for lists equal in force."
   pub equal-only-in-force : EqualOnlyInForce speaks R
   -- Every other exchange file is refused by its first reason, as for records; "a refusal of the list above without 6

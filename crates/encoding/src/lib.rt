@@ -1,0 +1,1 @@
+// The files of derivations within the limits: definitions and theorems, no code.
