@@ -39,8 +39,8 @@ FirstOfExchange speaks file number p = FirstReason checkingOrder (Reasons.Reason
 -- ---- the demands
 
 -- A call on a record has an answer, and the lent list before and after it; the two hypotheses about them, wherever
--- they stand here, are the two clauses of the contract of `check_record`. The one about an exchange's answer is the
--- clause of the contract of `check_exchange`.
+-- they stand here, are for Figure 1 the two clauses of the contract of `check_record`. The one about an exchange's
+-- answer is the clause of the contract of `check_exchange`.
 pub record Demands (speaks : ℕ → ℕ → Bool) (R : Relation) : Type 0 where
   -- "1. A record that keeps the layout and its limits, whose words are a proof of its goal and whose signers fit the
   -- list lent for them, is granted with its signers."
@@ -54,9 +54,11 @@ pub record Demands (speaks : ℕ → ℕ → Bool) (R : Relation) : Type 0 where
       (file before after : List ℕ) (answer : RecordVerdict)
       → answer ≡ recordAnswer speaks file (length before) → after ≡ listAfter file answer before
       → ¬ Release R file (length before) → RefusedUntouched speaks file answer before after
-  -- That is: whatever the list's length, a file is a release or has a first reason, never both, and never two first reasons.
-  pub either : (file : List ℕ) (room : ℕ) → Release R file room
-      ⊎ ((number : ℕ) × (p : ℕ) × First speaks file room number p)
+  -- That is: whatever the list's length, a file is a release or has a first reason, never both, and never two first
+  -- reasons.
+  pub either :
+      (file : List ℕ) (room : ℕ)
+      → Release R file room ⊎ ((number : ℕ) × (p : ℕ) × First speaks file room number p)
   pub never-both : (file : List ℕ) (room number p : ℕ) → Release R file room → ¬ First speaks file room number p
   pub one-first :
       (file : List ℕ) (room number p other q : ℕ)
@@ -72,7 +74,8 @@ pub record Demands (speaks : ℕ → ℕ → Bool) (R : Relation) : Type 0 where
   -- is such a derivation.
   pub every-proof : EveryProofHasARecord speaks R
   pub released-exactly : ReleasedExactly speaks R
-  -- What `record_line` writes, where there is room for the longest line, is the line of such a call with 256 words lent.
+  -- What `record_line` writes, where there is room for the longest line, is the line of such a call with 256 words
+  -- lent.
   pub printed : WholeLine speaks
   pub printed-of-call : LineOfCall speaks
   -- "3. Any two lists of statements over one table, of whatever length, are equal in force exactly when each statement
@@ -83,11 +86,12 @@ pub record Demands (speaks : ℕ → ℕ → Bool) (R : Relation) : Type 0 where
   pub equal-exactly :
       (file : List ℕ) (answer : ExchangeVerdict) → answer ≡ exchangeAnswer speaks file
       → answer ≡ Exchange.Equal ↔ (Proofs.Keeps file × Proofs.CarriesAll R file)
-  -- (and two lists have such a file exactly when they have all these proofs within 01's numbers)
-  pub every-exchange : EveryExchangeHasAFile speaks R
-  pub exchanged-exactly : ExchangedExactly speaks R
   -- and so only for lists equal in force."
   pub equal-only-in-force : EqualOnlyInForce speaks R
+  -- As for records: all these proofs of two lists, within 01's numbers, have a file that is found equal, and some file
+  -- of two lists is found equal exactly when there are such proofs.
+  pub every-exchange : EveryExchangeHasAFile speaks R
+  pub exchanged-exactly : ExchangedExactly speaks R
   -- Every other exchange file is refused by its first reason, as for records; "a refusal of the list above without 6
   -- and 8" (01).
   pub exchange-refused :

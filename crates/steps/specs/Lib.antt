@@ -1,6 +1,7 @@
 -- The meaning of step words: one machine for tests 9 to 15 of document 01, the words of a derivation, the theorem that
--- the machine closes on exactly these, and the trace of a run. Definitions, then the statements of theorems, to be read
--- in this order. The proofs are in proofs/.
+-- the machine closes on exactly these, and the trace of a run, for any test on principals and any limit on depth; then
+-- 01's own (Figure1), and samples. Definitions, then the statements of theorems, to be read in this order. The proofs
+-- are in proofs/.
 pub mod Obligation
 pub mod Applies
 pub mod Reasons
