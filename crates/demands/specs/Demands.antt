@@ -1,6 +1,6 @@
 -- The three demands, sentence by sentence, as one promise, for a test `speaks` on principals and a relation R. 00 asks
--- for Figure 1, where these are "the same K" and equality: that is `Demanded` (Figure1.antt). It holds for every test
--- that decides a reflexive and transitive relation. Proved in proofs/Demands.antt. Assumes nothing.
+-- for Figure 1, where these are "the same K" and equality: that is `Demanded` (Figure1.antt). The promise holds for
+-- every test that decides a reflexive and transitive relation. Proved in proofs/Demands.antt. Assumes nothing.
 --
 -- The entry points are `check_record` and `check_exchange`; `record_line` and `exchange_line` of `report`, which write
 -- a check's line; and `wethrynda_check_record` and `wethrynda_check_exchange` of `ffi`, which give C a check's answer
@@ -69,9 +69,9 @@ pub record Demands (speaks : ℕ → ℕ → Bool) (R : Relation) : Type 0 where
   pub nothing-else :
       (file : List ℕ) (room count : ℕ) (answer : RecordVerdict)
       → answer ≡ recordAnswer speaks file room → answer ≡ Granted count → Release R file room
-  -- "every such proof", said of derivations and 01's numbers alone: each derivation within them has a record that is
-  -- granted with its signers wherever these fit, and some record of a goal and statements is granted exactly when there
-  -- is such a derivation.
+  -- "every such proof", from the side of the derivations: each that is within 01's numbers has a record that is granted
+  -- with its signers wherever these fit, and some record of a goal and statements is granted exactly when there is such
+  -- a derivation.
   pub every-proof : EveryProofHasARecord speaks R
   pub released-exactly : ReleasedExactly speaks R
   -- What `record_line` writes, where there is room for the longest line, is the line of such a call with 256 words

@@ -1,6 +1,6 @@
 -- What demand 1 says of a record and a lent list: a release, a grant with its signers, a refusal by the first reason.
--- A proof is meant for a relation R on principals, and a reason to refuse for a test `speaks` that decides it; Figure 1
--- has equality (Figure1.antt). Assumes nothing.
+-- Proofs are for a relation R on principals, reasons to refuse for a test `speaks` that decides it; Figure 1 has
+-- equality (Figure1.antt). Assumes nothing.
 use Prim.Native.Nat.{ℕ, _≤_}
 use mathlib.Core.Bool.{Bool}
 use mathlib.Core.Path.{_≡_}

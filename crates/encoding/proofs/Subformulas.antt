@@ -16,7 +16,7 @@ use Rattle.logic.specs.Proposition.{Proposition, atom, false, _implies_, _and_,
 use Rattle.table.specs.Spelled.{among}
 use Rattle.table.specs.Number.{position}
 use Rattle.encoding.specs.Bounds.{operands, HasOperands}
-use Rattle.encoding.specs.Subformulas.{put, enter, enterAll, InOrder, SubformulasAre}
+use Rattle.encoding.specs.Subformulas.{put, enter, enterAll, TableOrder, SubformulasAre}
 use Rattle.encoding.proofs.Position.{among-in, place-among, position-in, in-position, position-stays}
 
 none-in : {l : List Proposition} → [] ⊆ l
@@ -24,7 +24,7 @@ none-in A m = absurd (List·Memᴰ·not-nil m)
 
 -- ---- one more in order
 
-module _ (made : List Proposition) (A : Proposition) (is : InOrder made) (new : ¬ (A ∈ made))
+module _ (made : List Proposition) (A : Proposition) (is : TableOrder made) (new : ¬ (A ∈ made))
     (ready : operands A ⊆ made) where
   abbrev more : List Proposition
   more = made ++ A ∷ []
@@ -45,7 +45,7 @@ module _ (made : List Proposition) (A : Proposition) (is : InOrder made) (new : 
       by (yes l) = before i l
       by (no l) = at-last i (omega (arith, length-append made (A ∷ [])))
 
-  one-more : InOrder more
+  one-more : TableOrder more
   one-more = record {
     none-twice =
         λ i j before within.
@@ -70,7 +70,7 @@ module _ (made : List Proposition) (A : Proposition) (is : InOrder made) (new : 
 -- one list has grown to another
 record Grown (made after : List Proposition) : Type 0 where
   kept : made ⊆ after
-  in-order : InOrder made → InOrder after
+  in-order : TableOrder made → TableOrder after
 
 same : {made : List Proposition} → Grown made made
 same = record { kept = ⊆-refl; in-order = λ o. o }
@@ -158,7 +158,7 @@ module _ (others : List Proposition) (has : HasOperands others) where
 
 -- ---- the subformulas
 
-none-in-order : InOrder []
+none-in-order : TableOrder []
 none-in-order = record {
   none-twice = λ i j before within. absurd (omega arith);
   operands-first = λ i within. absurd (omega arith);
@@ -173,7 +173,7 @@ subformulas-are As =
     }
 
 -- A list in order has the operands of all that it has.
-pub in-order-operands : {formulas : List Proposition} → InOrder formulas → HasOperands formulas
+pub in-order-operands : {formulas : List Proposition} → TableOrder formulas → HasOperands formulas
 in-order-operands {formulas} is B C m c =
     let (i, within, at) = place-among m in
     let lower = is .operands-first i within C (subst (λ (A : Proposition). C ∈ operands A) (sym at) c) in

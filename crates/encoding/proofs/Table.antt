@@ -23,7 +23,7 @@ use Rattle.table.proofs.Entries.{entry-of-words, entry-at}
 use Rattle.table.proofs.Ordered.{well-formed-is}
 use Rattle.table.proofs.Spelled.{made-of-operands}
 use Rattle.encoding.specs.Bounds.{NumberFits, operands}
-use Rattle.encoding.specs.Subformulas.{InOrder}
+use Rattle.encoding.specs.Subformulas.{TableOrder}
 use Rattle.encoding.specs.Laid.{IsWord, AreWords}
 use Rattle.encoding.specs.Table.{entryOf, tableOf, headsOf, secondsOf, TablesAre}
 use Rattle.encoding.proofs.Position.{member-of, among-in, in-position, position-in, at-position}
@@ -114,7 +114,7 @@ entry-of formulas [] i within = absurd (omega arith)
 entry-of formulas (A ∷ As) zero within = refl
 entry-of formulas (A ∷ As) (suc i) within = entry-of formulas As i (omega arith)
 
-module _ (formulas : List Proposition) (in-order : InOrder formulas) (few : length formulas ≤ mostFormulas)
+module _ (formulas : List Proposition) (in-order : TableOrder formulas) (few : length formulas ≤ mostFormulas)
     (numbered : (B : Proposition) → B ∈ formulas → NumberFits B) where
   abbrev es : List Entry
   es = tableOf formulas

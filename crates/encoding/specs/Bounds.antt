@@ -1,6 +1,6 @@
 -- The limits of 01 as they bear on derivations, in its own numbers: "F formulas (1 to 4,096), S statements (0 to 256),
 -- N steps (1 to 16,384)", "depth is at most 512", "Atoms and principals are numbered 0 to 4,095". They stand here a
--- second time, so that what is promised can be read without any definition of a file. Assumes nothing.
+-- second time, so that what is asked of a derivation can be read without any definition of a file. Assumes nothing.
 use Prim.Native.Nat.{ℕ, _≤_}
 use mathlib.Core.List.{List, [], _∷_}
 use lib.ListN.{length}
@@ -33,11 +33,11 @@ operands (K says A) = A ∷ []
 abbrev pub HasOperands : List Proposition → Type 0
 HasOperands formulas = (B C : Proposition) → B ∈ formulas → C ∈ operands B → C ∈ formulas
 
--- "F formulas (1 to 4,096)"
+-- "F formulas (1 to 4,096)"; a goal is one at least, and two empty lists get an atom (Exchange.antt, `orAtom`)
 abbrev pub FewEntries : ℕ → Type 0
 FewEntries n = n ≤ 4096
 
--- Some list of so many holds the given propositions, and their operands, and the operands of these, and so on; and
+-- Some list of at most so many holds the given propositions, their operands, the operands of these, and so on; and
 -- every number in it fits.
 pub record FewFormulas (As : List Proposition) : Type 0 where
   pub formulas : List Proposition

@@ -120,7 +120,7 @@ pub record Exchanged (speaks : ℕ → ℕ → Bool) (first second : List Propos
 -- ---- what is promised
 
 module _ (speaks : ℕ → ℕ → Bool) (R : Relation) where
-  -- The file above is one of these derivations;
+  -- The file above is an exchange file of these derivations;
   abbrev pub EncodedIsExchange : Type 0
   EncodedIsExchange =
       (first second : List Proposition) (E : Exchange R first second)

@@ -15,7 +15,7 @@ laidWords fields parts = fields ++ flatten parts
 abbrev pub laid : List ℕ → List (List ℕ) → List ℕ
 laid fields parts = fileOf (laidWords fields parts)
 
--- There is a word for each field, and each part is as long as the field says that the layout names for it.
+-- There is a word for each field, and each part is as long as its field says, the one that the layout names for it.
 pub record Agree (layout : Layout) (fields : List ℕ) (parts : List (List ℕ)) : Type 0 where
   pub each-field : length fields ≡ length (layout .fields)
   pub each-part : map (λ i. getD fields i 0) (layout .parts) ≡ map length parts

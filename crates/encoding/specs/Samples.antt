@@ -38,9 +38,9 @@ RecordA =
     ∷ 40960 ∷ 45057 ∷ 4096 ∷ 0
     ∷ []
 
--- No sample of 01: all six kinds, each once, with unlike operands, and four unlike fields, so that no two can change
--- places. The goal is entered first, then the statements in their order, each after its operands. Implies right; and
--- left; implies left, init, false left.
+-- No sample of 01: all six kinds, each compound one once, with unlike operands, and four unlike fields, so that no two
+-- can change places. The goal is entered first, then the statements in their order, each after its operands. Implies
+-- right; and left; implies left, init, false left.
 abbrev pub goal : Proposition
 goal = atom 9 implies false
 

@@ -13,7 +13,7 @@ use Rattle.table.specs.Spelled.{among}
 use Rattle.table.specs.Number.{position}
 use Rattle.encoding.specs.Bounds.{NumberFits, operands, HasOperands, FewEntries, FewFormulas}
 
--- A at the end, unless it stands there already
+-- A at the end, unless the list has it already
 abbrev pub put : Proposition → List Proposition → List Proposition
 put A made = pick (ltb (position made A) (length made)) made (made ++ A ∷ [])
 
@@ -34,7 +34,7 @@ abbrev pub subformulas : List Proposition → List Proposition
 subformulas As = enterAll As []
 
 -- "An operand that is a formula has a lower number than the entry that uses it" (01), and no proposition stands twice.
-pub record InOrder (formulas : List Proposition) : Type 0 where
+pub record TableOrder (formulas : List Proposition) : Type 0 where
   pub none-twice : (i j : ℕ) → i < j → j < length formulas → ¬ (among formulas i ≡ among formulas j)
   pub operands-first :
       (i : ℕ) → i < length formulas → (C : Proposition) → C ∈ operands (among formulas i) → position formulas C < i
@@ -42,7 +42,7 @@ pub record InOrder (formulas : List Proposition) : Type 0 where
 -- The list has this order, holds the given propositions, and is no more than is needed: each list that holds them and
 -- all that they are made of has all of it.
 pub record Subformulas (As formulas : List Proposition) : Type 0 where
-  pub in-order : InOrder formulas
+  pub in-order : TableOrder formulas
   pub holds : As ⊆ formulas
   pub needed : (others : List Proposition) → As ⊆ others → HasOperands others → formulas ⊆ others
 

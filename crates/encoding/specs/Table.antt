@@ -1,4 +1,4 @@
--- The table of a list of propositions, entry by entry, in the order of `subformulas`. Proved in proofs/Table.antt.
+-- The table of a list of propositions, entry by entry, in the order of the list. Proved in proofs/Table.antt.
 -- Assumes nothing.
 use Prim.Native.Nat.{ℕ, _≤_}
 use mathlib.Core.Path.{_≡_}
@@ -16,7 +16,7 @@ use Rattle.table.specs.Number.{position}
 use Rattle.table.specs.Tests.{entries}
 use Rattle.table.specs.Laws.{Ordered, NoneRepeated}
 use Rattle.encoding.specs.Bounds.{NumberFits}
-use Rattle.encoding.specs.Subformulas.{InOrder}
+use Rattle.encoding.specs.Subformulas.{TableOrder}
 
 -- the entry of a proposition, where the formulas of the table are these: an operand's number is its position
 abbrev pub entryOf : List Proposition → Proposition → Entry
@@ -46,5 +46,5 @@ pub record TableIs (formulas : List Proposition) : Type 0 where
 
 abbrev pub TablesAre : Type 0
 TablesAre =
-    (formulas : List Proposition) → InOrder formulas → length formulas ≤ mostFormulas
+    (formulas : List Proposition) → TableOrder formulas → length formulas ≤ mostFormulas
     → ((B : Proposition) → B ∈ formulas → NumberFits B) → TableIs formulas

@@ -29,8 +29,8 @@ module _ (speaks : ℕ → ℕ → Bool) where
       → answer ≡ recordAnswer speaks file (length before) → after ≡ listAfter file answer before
       → recordLine answer after ≡ printedLine file
 
-  -- A call that grants a file, whatever list is lent: `answer` and `after` are what the contract of `check_record`
-  -- says.
+  -- A call that grants a file, whatever list is lent: `answer` and `after` are, for Figure 1, what the contract of
+  -- `check_record` says.
   pub record Grants (file before after : List ℕ) (answer : RecordVerdict) : Type 0 where
     pub answered : answer ≡ recordAnswer speaks file (length before)
     pub list-after : after ≡ listAfter file answer before

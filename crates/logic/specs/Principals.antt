@@ -1,5 +1,6 @@
--- Relations on principals: R K L says that K's word may serve an affirmation by L, and tests that decide them. Figure 1
--- takes equality (Figure1.antt); 02, job 14, will take "K speaks for L" (the crate `deputies`). Assumes nothing.
+-- Relations on principals, where R K L says that K's word may serve an affirmation by L; and tests that decide them.
+-- Figure 1 takes equality (Figure1.antt); 02, job 14, will take "K speaks for L" (the crate `deputies`). Assumes
+-- nothing.
 use mathlib.Core.Bool.{Bool, true}
 use mathlib.Core.Path.{_≡_}
 use mathlib.Core.Logic.{_↔_}

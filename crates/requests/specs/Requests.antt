@@ -1,9 +1,10 @@
 -- What document 02 asks for, request by request, sentence by sentence, as one promise, for a test `speaks` on
--- principals and a relation R. Until job 14 lands 02 means Figure 1, "the same K" and equality: that is `Requested`
+-- principals and a relation R. Until job 14 lands, 02 means Figure 1, "the same K" and equality: that is `Requested`
 -- (Figure1.antt). Samples, and what became of the answer that 01 gave, are Figure 1's whatever these are. Proved in
--- proofs/Requests.antt.
--- `Grants` is a call that grants a file: its answer and its list are what the contract of `check_record` says, as for
--- every release. `Call` is any call of `write_sentences`. Assumes nothing.
+-- proofs/Requests.antt. Assumes nothing.
+--
+-- `Grants` is a call that grants a file: its answer and its list are, for Figure 1, what the contract of `check_record`
+-- says, as for every release. `Call` is likewise any call of `write_sentences`.
 use Prim.Native.Nat.{ℕ}
 use mathlib.Core.Bool.{Bool}
 use Rattle.logic.specs.Principals.{Relation, Lawful}

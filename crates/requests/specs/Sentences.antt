@@ -13,7 +13,8 @@ use Rattle.sentences.specs.Answer.{sentencesAnswer, signersAfter, textAfter}
 use Rattle.sentences.specs.Promises.{proofText, sentencesOrder, SentencesReason}
 use Rattle.demands.specs.Release.{Release}
 
--- A call: its answer, and what is lent before and after it. These are the clauses of the contract of `write_sentences`.
+-- A call: its answer, and what is lent before and after it. For Figure 1 these are the clauses of the contract of
+-- `write_sentences`.
 pub record Call (speaks : ℕ → ℕ → Bool) (file list list′ text text′ : List ℕ) (answer : SentencesVerdict) : Type 0 where
   pub answered : answer ≡ sentencesAnswer speaks file (length list) (length text)
   pub list-after : list′ ≡ signersAfter file answer list
