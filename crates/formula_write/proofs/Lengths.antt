@@ -1,23 +1,22 @@
 -- The promise of specs/Length.antt, and what the functions on lengths ask for. Assumes nothing.
 use Prim.Native.Nat.{ℕ, suc, _+_, _≤_, _<_}
 use native.Mathlib.Decide.{decLt}
-use native.Mathlib.Numerals.{add-one}
 use native.Mathlib.Omega.{arith}
 use mathlib.Core.Path.{_≡_, sym, ap, _∙_}
 use mathlib.Core.Logic.{_⊎_, ⊎-elim}
-use mathlib.Core.List.{List, [], _∷_, _++_, map, map-append}
+use mathlib.Core.List.{List, _++_, map, map-append}
 use lib.Dec.{ltb}
-use lib.ListN.{length, take, drop, getD, set, length-append, length-map, List·getD-map, List·getD-eq-default}
+use lib.ListN.{length, take, drop, getD, length-append, length-map, List·getD-map, List·getD-eq-default}
 use lib.Seq.{split-at, getD-at, length-take-le, take-all, take-at}
 use borrow.Author.Tests.{lt-ltb, le-ltb}
 use Rattle.basics.specs.Written.{written}
-use Rattle.basics.proofs.Written.{written-none, written-fits, written-full, written-store}
+use Rattle.basics.proofs.Written.{written-fits, written-full}
 use Rattle.text.specs.Ascii.{ascii}
 use Rattle.logic.specs.Proposition.{Proposition, false}
 use Rattle.table.specs.declared.entry.Entry.{Entry}
-use Rattle.table.specs.Tests.{entryAt}
-use Rattle.table.specs.Spelled.{among, proposition, spelledAfter, spelled}
-use Rattle.table.proofs.Spelled.{length-spelled, spelled-next, spelled-front}
+use Rattle.table.specs.Spelled.{among, spelled}
+use Rattle.table.proofs.Spelled.{length-spelled, spelled-front}
+use Rattle.table.proofs.Upward.{Upward, count-values}
 use Rattle.sentences.specs.Formula.{propositionText}
 use Rattle.formula_write.specs.Operand.{inBrackets}
 use Rattle.formula_write.specs.Length.{capped, lengthOf, lengthsOf, CappedBelow}
@@ -82,68 +81,31 @@ length-unmade ls n l made e =
 
 -- ---- the pass over the table
 
--- What the loop has done that measures one entry after the other: those before i.
-pub record Measured (es : List Entry) (old out : List ℕ) (i : ℕ) : Type 0 where
-  pub done : out ≡ written old (map lengthOf (spelled (take i es)))
-  pub some : i ≤ length es
-  pub within : i ≤ length old
+module _ {es : List Entry} {old out : List ℕ} {i : ℕ} (u : Upward lengthOf es old out i) where
+  -- The loop that measures one entry after the other has written the lengths of those before i.
+  long : length (map lengthOf (spelled (take i es))) ≡ i
+  long = count-values lengthOf es i (u .some)
 
--- At first none,
-pub measured-none : (es : List Entry) (old : List ℕ) → Measured es old old 0
-unfolding spelledAfter spelled
-measured-none es old = record { done = sym (written-none old); some = omega arith; within = omega arith }
+  done : out ≡ written old (map lengthOf (spelled (take i es)))
+  done =
+      let within = u .within in
+      u .done
+      ∙ ap (λ (k : ℕ). map lengthOf (spelled (take i es)) ++ drop k old) (sym long)
+      ∙ sym (written-fits old (map lengthOf (spelled (take i es))) (omega (arith, long)))
 
--- as many as there are entries before i;
-count : (es : List Entry) (i : ℕ) → i ≤ length es → length (map lengthOf (spelled (take i es))) ≡ i
-count es i l = length-map (spelled (take i es)) lengthOf ∙ length-spelled (take i es) ∙ length-take-le i es l
-
-module _ {es : List Entry} {old out : List ℕ} {i : ℕ} (m : Measured es old out i) where
-  -- they are the first i words;
-  pub measured-front : take i out ≡ map lengthOf (spelled (take i es))
-  measured-front =
-      let new : List ℕ = map lengthOf (spelled (take i es)) in
-      let long : length new ≡ i = count es i (m .some) in
-      let within = m .within in
-      ap (take i) (m .done ∙ written-fits old new (omega arith))
-      ∙ take-at new (drop (length new) old) i long
-
-  -- then one more,
-  pub measured-more : (x : ℕ) → i < length es → i < length old → x
-      ≡ lengthOf (proposition (spelled (take i es)) (entryAt es i))
-      → Measured es old (set out i x) (i + 1)
-  measured-more x l room e = record { done = stored; some = omega arith; within = omega arith }
-    where
-      new : List ℕ
-      new = map lengthOf (spelled (take i es))
-
-      last : new ++ (x ∷ []) ≡ map lengthOf (spelled (take (i + 1) es))
-      last =
-          ap (λ (y : ℕ). new ++ (y ∷ [])) e
-          ∙ sym (map-append lengthOf (spelled (take i es)) (proposition (spelled (take i es)) (entryAt es i) ∷ []))
-          ∙ ap (map lengthOf) (sym (spelled-next es i l))
-          ∙ ap (λ (k : ℕ). map lengthOf (spelled (take k es))) (sym (add-one i))
-
-      stored : set out i x ≡ written old (map lengthOf (spelled (take (i + 1) es)))
-      stored =
-          ap (λ (r : List ℕ). set r i x) (m .done)
-          ∙ ap (λ (k : ℕ). set (written old new) k x) (sym (count es i (m .some)))
-          ∙ written-store old new x
-          ∙ ap (written old) last
-
-  -- and where the room or the entries end, all that there is room for.
+  -- Where the room or the entries end, these are all that there is room for.
   pub measured-all : (length old ≤ i) ⊎ (length es ≤ i) → out ≡ written old (lengthsOf es)
   measured-all = ⊎-elim full ended
     where
       full : length old ≤ i → out ≡ written old (lengthsOf es)
       full l =
           let (rest, is) = spelled-front es i in
-          m .done
-          ∙ sym (written-full old (map lengthOf (spelled (take i es))) (map lengthOf rest)
-          (rw (count es i (m .some)) l))
+          done
+          ∙ sym (written-full old (map lengthOf (spelled (take i es))) (map lengthOf rest) (rw long l))
           ∙ ap (written old) (sym (map-append lengthOf (spelled (take i es)) rest) ∙ ap (map lengthOf) (sym is))
 
       ended : length es ≤ i → out ≡ written old (lengthsOf es)
-      ended l = m .done ∙ ap (λ (t : List Entry). written old (map lengthOf (spelled t))) (take-all i es l)
+      ended l = done ∙ ap (λ (t : List Entry). written old (map lengthOf (spelled t))) (take-all i es l)
 
 -- What is measured where there is room for all stands at the start.
 pub measured-whole : (es : List Entry) (old out : List ℕ) → length es ≤ length old → out ≡ written old (lengthsOf es)

@@ -13,20 +13,21 @@ use Rattle.table.specs.declared.entry.Entry.{Entry}
 use Rattle.table.specs.Tests.{entries}
 use Rattle.table.specs.Spelled.{proposition, spelled}
 use Rattle.table.proofs.Entries.{length-entries, entry-at}
+use Rattle.table.proofs.Upward.{Upward, upward-none, upward-front, upward-more}
 use Rattle.formula_write.specs.Length.{lengthOf}
-use Rattle.formula_write.proofs.Lengths.{Measured, measured-none, measured-front, measured-more, measured-all}
+use Rattle.formula_write.proofs.Lengths.{measured-all}
 use Rattle.formula_write.proofs.length.measure_formulas.Statement.{statement}
 use Rattle.formula_write.proofs.length.measure_formulas.Tie as tie
 
 abbrev Inv-loop : tie.InvT-loop
 Inv-loop heads seconds lengths₀ i₀ lengths i =
-    (length lengths ≡ length lengths₀) × Measured (entries heads seconds) lengths₀ lengths i
+    (length lengths ≡ length lengths₀) × Upward lengthOf (entries heads seconds) lengths₀ lengths i
 
 abbrev μ-loop : tie.MeasureT-loop
 μ-loop heads seconds lengths₀ i₀ lengths i = length lengths₀ - i
 
 loop-holds : tie.Need-loop-holds Inv-loop μ-loop
-loop-holds c = (refl, measured-none _ _)
+loop-holds c = (refl, upward-none _ _ _)
 
 loop-again : tie.Need-loop-again Inv-loop μ-loop
 loop-again c =
@@ -41,8 +42,8 @@ loop-again c =
     let in-seconds : l .i < length ss = ltb-true _ _ (test .if2 .taken) in
     let made = spelled (take (l .i) es) in (
       length-set (l .lengths) (l .i) x ∙ l .inv .0,
-      measured-more (l .inv .1) x (omega (arith, length-entries hs ss)) (omega (arith, l .inv .0))
-          (c .entry-length .ensures made (measured-front (l .inv .1))
+      upward-more _ (l .inv .1) x (omega (arith, length-entries hs ss)) (omega (arith, l .inv .0))
+          (c .entry-length .ensures made (upward-front _ (l .inv .1))
           ∙ ap (λ (e : Entry). lengthOf (proposition made e))
           (c .before .take-apart .ensures ∙ sym (entry-at hs ss (l .i) in-heads in-seconds))),
     )
