@@ -9,16 +9,9 @@ ghost use Rattle.steps.specs.Figure1.{same};
 ghost use Rattle.premises.specs.Premises.{opened};
 use premises::premises::Premises;
 use steps::goal::Goal;
+use steps::speaks::speaks_for;
 use table::entry::Entry;
-use table::entry::Principal;
 use table::entry::entry_at;
-
-// "the same K" (01, code 11): the one place where principals are compared.
-fn speaks_for(k: Principal, l: Principal) -> bool
-    ensures { λ r. ⌜ r ≡ same (k .0) (l .0) ⌝ }
-{
-    k.0 == l.0
-}
 
 // 0 | init | an atom's truth | that atom | none
 pub(crate) fn init(heads: &[u16], seconds: &[u16], n: u16, goal: Goal) -> Premises

@@ -3,4 +3,5 @@
 pub mod Ascii
 pub mod Fill
 pub mod Decimal
+pub mod Parse
 pub mod Samples
