@@ -2,7 +2,7 @@
 use Prim.Native.Nat.{ℕ, _≤_}
 use native.Mathlib.Omega.{arith}
 use mathlib.Core.Bool.{Bool, true, false}
-use mathlib.Core.Path.{_≡_, refl, sym, ap, _∙_}
+use mathlib.Core.Path.{_≡_, refl, sym, ap, subst, _∙_}
 use mathlib.Core.List.{List}
 use lib.Dec.{leb}
 use lib.ListN.{length, take}
@@ -41,3 +41,8 @@ owed-all before {line} {text} {after} {count} same e f =
       whole ∙ sym (ap (λ (t : Bool). pick t (length line) 0) e),
       (filled ∙ sym (ap (λ (t : Bool). pick t (written before line) before) e), (within, sym (length-take-le count after within))),
     )
+
+-- What is owed for a line is owed for the same line.
+pub owed-same : (before : List ℕ) {line text after : List ℕ} {count : ℕ} → line ≡ text → Owed before text count after
+    → Owed before line count after
+owed-same before {after = after} {count} same = subst (λ (l : List ℕ). Owed before l count after) (sym same)

@@ -5,3 +5,4 @@ mod granted;
 mod measure;
 pub mod record_line;
 mod refused;
+mod whole;

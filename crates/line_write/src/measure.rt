@@ -57,7 +57,7 @@ pub(crate) fn is_granted_room(count: usize, signers: &[u16], room: usize) -> boo
     less_listed(counted, signers, count) > 0
 }
 
-// Whether a refusal's line has room, a record's or an exchange's: so too, and " place " has 7 bytes.
+// Whether a refusal's line has room, of whatever call: so too, and " place " has 7 bytes.
 pub(crate) fn is_refused_room(number: u8, place: usize, room: usize) -> bool
     ensures { λ r. ⌜ r ≡ leb (length (refusedLine number place)) room ⌝ }
 {
