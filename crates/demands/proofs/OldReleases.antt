@@ -8,7 +8,7 @@ use mathlib.Core.List.{List, [], _∷_, _++_, List·Memᴰ·head, List·Memᴰ·
 use Rattle.basics.specs.Membership.{_∈_, _⊆_}
 use Rattle.basics.proofs.Membership.{⊆-left, ⊆-right}
 use Rattle.logic.specs.Proposition.{Proposition, atom, false, _implies_, _and_, _or_, _says_}
-use Rattle.logic.specs.Misreadings.{SignedBy, Anybody}
+use Rattle.logic.specs.Signed.{SignedBy, Anybody}
 use Rattle.logic.specs.Principals.{Relation, Reflexive, Transitive, Lawful}
 use Rattle.logic.specs.Force.{HasProof}
 use Rattle.logic.proofs.Promises.{for-every-relation}

@@ -12,7 +12,7 @@ use Rattle.basics.specs.Membership.{_∈_, _⊆_}
 use Rattle.logic.specs.Proposition.{Proposition, atom, false, _implies_, _and_, _or_, _says_}
 use Rattle.logic.specs.Principals.{Relation}
 use Rattle.logic.specs.Force.{HasProof, EqualInForce}
-use Rattle.logic.specs.Misreadings.{SignedBy, Anybody}
+use Rattle.logic.specs.Signed.{SignedBy, Anybody}
 use Rattle.table.specs.Spelled.{spellAll}
 use Rattle.record.specs.Proof.{statedBy, goalOf}
 use Rattle.exchange.specs.declared.verdict.ExchangeVerdict.the-variants.{Equal}

@@ -8,7 +8,7 @@ use Rattle.logic.specs.Proposition.{Proposition, Principal, atom, false,
 use Rattle.logic.specs.Judgment.{Judgment, truth, _affirms_}
 use Rattle.logic.specs.Principals.{Relation}
 use Rattle.logic.specs.Derivation.{Derivation, init, affirm, implies-right, implies-left, false-left, and-right, and-left, or-right-first, or-right-second, or-left, says-right, says-left}
-use Rattle.logic.specs.Misreadings.{SignedBy, AllSignedBy}
+use Rattle.logic.specs.Signed.{SignedBy, AllSignedBy}
 
 -- ---- lists of signed statements
 

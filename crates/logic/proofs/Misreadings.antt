@@ -1,7 +1,8 @@
 -- What the classes get wrong. Assumes nothing.
 use Rattle.basics.proofs.Membership.{inserted, repeated}
 use Rattle.logic.specs.Figure1.{Same}
-use Rattle.logic.specs.Misreadings.{Anybody, OtherThan, SaysGivesNoAtom, SignedGiveNoAtom, SaysServesNoOther, SignedServeNoOther, SaysFalseServesNoOther, SaysFalseGivesNoFalse, SignedGiveNoFalse, TwiceAddsNothing}
+use Rattle.logic.specs.Signed.{Anybody, OtherThan}
+use Rattle.logic.specs.Misreadings.{SaysGivesNoAtom, SignedGiveNoAtom, SaysServesNoOther, SignedServeNoOther, SaysFalseServesNoOther, SaysFalseGivesNoFalse, SignedGiveNoFalse, TwiceAddsNothing}
 use Rattle.logic.proofs.Structural.{weaken}
 use Rattle.logic.proofs.FromSigned.{one-signed, from-signed}
 use Rattle.logic.proofs.Figure1.{figure1}

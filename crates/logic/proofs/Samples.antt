@@ -5,7 +5,7 @@ use Rattle.basics.proofs.Membership.{first, second}
 use Rattle.logic.specs.Derivation.{init, affirm, implies-left, and-right, and-left, says-right, says-left}
 use Rattle.logic.specs.Figure1.{Same}
 use Rattle.logic.specs.Samples.{FirstPremiseIsTruth, SampleA, SampleB, SampleC, SampleD, SampleF, SampleK, FirstPremiseFirst, OpenedInBoth}
-use Rattle.logic.specs.Misreadings.{Anybody, OtherThan}
+use Rattle.logic.specs.Signed.{Anybody, OtherThan}
 use Rattle.logic.proofs.FromSigned.{none-signed, one-signed, from-signed}
 use Rattle.logic.proofs.Force.{each-nil, each-cons}
 use Rattle.logic.proofs.Figure1.{figure1}

@@ -4,7 +4,7 @@ use Rattle.basics.proofs.Membership.{first, second}
 use Rattle.logic.specs.Derivation.{affirm, implies-right, implies-left, says-right, says-left}
 use Rattle.logic.specs.Figure1.{Same}
 use Rattle.logic.specs.Says.{TruthIsSaid, SaysDistributes, SaysTwiceIsSays, SaidIsNotTrue, SaidFalseIsNotFalse, SaidIsNotSaidByAnother}
-use Rattle.logic.specs.Misreadings.{Anybody, OtherThan}
+use Rattle.logic.specs.Signed.{Anybody, OtherThan}
 use Rattle.logic.proofs.FromSigned.{none-signed, from-signed}
 use Rattle.logic.proofs.Figure1.{figure1}
 

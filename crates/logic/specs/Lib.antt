@@ -6,6 +6,7 @@ pub mod Principals
 pub mod Derivation
 pub mod Depth
 pub mod Named
+pub mod Signed
 pub mod Structural
 pub mod OneStep
 pub mod SaysLeft

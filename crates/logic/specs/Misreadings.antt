@@ -4,30 +4,10 @@
 use mathlib.Core.List.{List, [], _∷_, _++_}
 use mathlib.Core.Logic.{_≢_}
 use Rattle.basics.specs.Membership.{_∈_}
-use Rattle.logic.specs.Proposition.{Proposition, Atom, Principal, atom, false, _implies_, _and_, _or_, _says_}
+use Rattle.logic.specs.Proposition.{Proposition, Atom, Principal, atom, false, _says_}
 use Rattle.logic.specs.Judgment.{_affirms_}
+use Rattle.logic.specs.Signed.{AllSignedBy, Anybody, OtherThan}
 use Rattle.logic.specs.Figure1.{Derivation, HasProof, EqualInForce}
-
--- The statement is signed: it is K says something, and P holds of its signer K.
-abbrev pub SignedBy : (Principal → Type 0) → Proposition → Type 0
-SignedBy P (atom a) = ⊥
-SignedBy P false = ⊥
-SignedBy P (A implies B) = ⊥
-SignedBy P (A and B) = ⊥
-SignedBy P (A or B) = ⊥
-SignedBy P (K says A) = P K
-
--- Every statement of the list is signed so.
-abbrev pub AllSignedBy : (Principal → Type 0) → List Proposition → Type 0
-AllSignedBy P Γ = (A : Proposition) → A ∈ Γ → SignedBy P A
-
--- whoever the signer is
-abbrev pub Anybody : Principal → Type 0
-Anybody K = Unit
-
--- any signer but L
-abbrev pub OtherThan : Principal → Principal → Type 0
-OtherThan L K = K ≢ L
 
 -- "They read 'the lab says the reel is sound' as 'the reel is sound'." What is said, by whomever, does not by itself
 -- prove an atom.

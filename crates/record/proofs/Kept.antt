@@ -64,6 +64,9 @@ module _ (speaks : ℕ → ℕ → Bool) (file : List ℕ) (room number p : ℕ)
   from-test : OneApplies (testsTo7 file) number p → (number ≤ 7) × Reason speaks file room number p
   from-test one = ⊎-elim from-layout (⊎-elim from-table from-six-seven) (joined .0 one)
 
+  pub reasons-to-7 : ((number ≤ 7) × Reason speaks file room number p) ↔ OneApplies (testsTo7 file) number p
+  reasons-to-7 = (λ (few, r). to-test few r, from-test)
+
 pub keeps-exactly : (speaks : ℕ → ℕ → Bool) → KeepsExactly speaks
 keeps-exactly speaks file room =
     let (keeps, none) = none-to-7 file in

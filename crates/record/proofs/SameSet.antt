@@ -25,31 +25,36 @@ use Rattle.signers.proofs.Each.{same-signers}
 use Rattle.record.specs.Layout.{formulas, goal, statements, steps, table, saysLeftNumbers, signers}
 use Rattle.record.specs.Answer.{goalOutside, statementOutside, listShort, tests, stepVerdict, recordAnswer}
 use Rattle.record.specs.Proof.{Sized}
-use Rattle.record.specs.Promises.{SameSet, StatementsAreASet, StatedTwice}
+use Rattle.record.specs.Promises.{SameButStatements, SameSet, StatementsAreASet, StatedTwice}
 use Rattle.record.proofs.Lengths.{length-heads}
 use Rattle.record.proofs.Keeps.{none-to-3-is}
 use Rattle.record.proofs.Granted.{granted-exactly}
 
 -- The other way round.
-turned : {file other : List ℕ} → SameSet file other → SameSet other file
-turned s = record {
-  same-heads = sym (s .same-heads);
-  same-seconds = sym (s .same-seconds);
-  same-goal = sym (s .same-goal);
-  same-steps = sym (s .same-steps);
-  same-statements = λ n. Iff·symm (s .same-statements n);
+pub turned-rest : {file other : List ℕ} → SameButStatements file other → SameButStatements other file
+turned-rest r = record {
+  same-heads = sym (r .same-heads);
+  same-seconds = sym (r .same-seconds);
+  same-goal = sym (r .same-goal);
+  same-steps = sym (r .same-steps);
 }
 
+turned : {file other : List ℕ} → SameSet file other → SameSet other file
+turned s = record { same-rest = turned-rest (s .same-rest); same-statements = λ n. Iff·symm (s .same-statements n) }
+
+pub same-table : {file other : List ℕ} → SameButStatements file other → table file ≡ table other
+same-table r = ap₂ entries (r .same-heads) (r .same-seconds)
+
 module _ (file other : List ℕ) (s : SameSet file other) where
-  same-table : table file ≡ table other
-  same-table = ap₂ entries (s .same-heads) (s .same-seconds)
+  abbrev rest : SameButStatements file other
+  rest = s .same-rest
 
   -- They have the same signers,
   same-names : signers file ≡ signers other
   same-names =
       same-signers (table file) (statements file) (statements other) (saysLeftNumbers file) (s .same-statements)
-      ∙ ap₂ (λ (es : List Entry) (ws : List ℕ). signersOf es (statements other) (namedNumbers isSaysLeft ws)) same-table
-      (s .same-steps)
+      ∙ ap₂ (λ (es : List Entry) (ws : List ℕ). signersOf es (statements other) (namedNumbers isSaysLeft ws)) (same-table rest)
+      (rest .same-steps)
 
   -- as many,
   same-count : length (signers file) ≡ length (signers other)
@@ -57,20 +62,24 @@ module _ (file other : List ℕ) (s : SameSet file other) where
 
   -- and the machine comes to the same.
   same-obligation : Alike (obligation (statements file) (goal file)) (obligation (statements other) (goal other))
-  same-obligation = record { same-goal = ap (λ (n : ℕ). True (formula n)) (s .same-goal); same-depth = refl; same-set = s .same-statements }
+  same-obligation = record {
+    same-goal = ap (λ (n : ℕ). True (formula n)) (rest .same-goal);
+    same-depth = refl;
+    same-set = s .same-statements;
+  }
 
   same-verdict : (speaks : ℕ → ℕ → Bool) → stepVerdict speaks file ≡ stepVerdict speaks other
   same-verdict speaks =
       hypotheses-are-a-set speaks mostDepth (table file) _ _ same-obligation (steps file)
       ∙ ap₂
       (λ (es : List Entry) (ws : List ℕ). run speaks mostDepth es ws (obligation (statements other) (goal other) ∷ []))
-      same-table (s .same-steps)
+      (same-table rest) (rest .same-steps)
 
   module _ (speaks : ℕ → ℕ → Bool) (fits : Sized file) (fits′ : Sized other) (below : (n : ℕ) → n ∈ statements file
       → n < formulas file) (room : ℕ) where
     -- Their tables are as long, and 7 doesn't apply to the other either.
     same-formulas : formulas file ≡ formulas other
-    same-formulas = sym (length-heads file fits) ∙ ap length (s .same-heads) ∙ length-heads other fits′
+    same-formulas = sym (length-heads file fits) ∙ ap length (rest .same-heads) ∙ length-heads other fits′
 
     below′ : (n : ℕ) → n ∈ statements other → n < formulas other
     below′ n m = subst (λ (F : ℕ). n < F) same-formulas (below n (s .same-statements n .1 m))
@@ -83,9 +92,9 @@ module _ (file other : List ℕ) (s : SameSet file other) where
         let first = one ∙ sym one′ in
         let second = two ∙ sym two′ in
         let third = three ∙ sym three′ in
-        let fourth : wrongEntry (table file) ≡ wrongEntry (table other) = ap wrongEntry same-table in
-        let fifth = ap₂ repeatedEntry (s .same-heads) (s .same-seconds) in
-        let sixth : goalOutside file ≡ goalOutside other = cc (same-formulas, s .same-goal) in
+        let fourth : wrongEntry (table file) ≡ wrongEntry (table other) = ap wrongEntry (same-table rest) in
+        let fifth = ap₂ repeatedEntry (rest .same-heads) (rest .same-seconds) in
+        let sixth : goalOutside file ≡ goalOutside other = cc (same-formulas, rest .same-goal) in
         let seventh : statementOutside file ≡ statementOutside other = none-outside _ (statements file) .1 below ∙ sym (none-outside _ (statements other) .1 below′) in
         let eighth : listShort file room ≡ listShort other room = cc same-count in
         λ i.

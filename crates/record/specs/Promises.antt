@@ -45,12 +45,16 @@ abbrev pub Small : RecordVerdict → Type 0
 Small (Granted count) = count ≤ mostStatements
 Small (Refused number p) = (1 ≤ number) × (number ≤ 15) × (p ≤ mostSteps)
 
--- Two records of one table, goal and steps, whose statements are the same set, as where one of them stands twice.
-pub record SameSet (file other : List ℕ) : Type 0 where
+-- Two records of one table, goal and steps.
+pub record SameButStatements (file other : List ℕ) : Type 0 where
   pub same-heads : heads file ≡ heads other
   pub same-seconds : seconds file ≡ seconds other
   pub same-goal : goal file ≡ goal other
   pub same-steps : steps file ≡ steps other
+
+-- Two such records whose statements are the same set, as where one of them stands twice.
+pub record SameSet (file other : List ℕ) : Type 0 where
+  pub same-rest : SameButStatements file other
   pub same-statements : (n : ℕ) → n ∈ statements file ↔ n ∈ statements other
 
 module _ (speaks : ℕ → ℕ → Bool) where
