@@ -6,6 +6,7 @@ pub mod Structural
 pub mod OneStep
 pub mod FromSigned
 pub mod SaysLeft
+pub mod Sides
 pub mod Identity
 pub mod Bind
 pub mod Cut

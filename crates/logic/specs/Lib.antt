@@ -10,6 +10,7 @@ pub mod Signed
 pub mod Structural
 pub mod OneStep
 pub mod SaysLeft
+pub mod Sides
 pub mod Cut
 pub mod Force
 pub mod Promises

@@ -7,6 +7,12 @@ use Rattle.line.proofs.Printed.{one-line, line-of-grant}
 use Rattle.sentences.proofs.Text.{text-of-derivation, line-per-step, same-lines, same-text}
 use Rattle.sentences.proofs.Feeds.{feed-per-line}
 use Rattle.sentences.proofs.Samples.{text-of-a, other-numbers, text-of-every-rule, answers, lent-after}
+use Rattle.independence.proofs.SameProofs.{same-proofs, both-or-neither, never-opened}
+use Rattle.independence.proofs.Answer.{independent-exactly, not-independent-exactly, refused-exactly}
+use Rattle.independence.proofs.StepsUnread.{steps-unread}
+use Rattle.independence.proofs.SameWords.{same-words, never-signs}
+use Rattle.independence.proofs.Samples as Asked
+use Rattle.logic.proofs.Sides.{sides-are}
 use Rattle.requests.specs.Requests.{ForEveryRelation}
 use Rattle.requests.proofs.Order.{signers-rise, release-grants, order-not-free, one-possible-line, count-stays}
 use Rattle.requests.proofs.Sentences.{release-written, else-refused}
@@ -47,4 +53,24 @@ for-every-relation speaks R lawful = record {
   count-per-rule = count-per-rule speaks;
   premises-counted = premises-counted speaks;
   premises-of-derivation = premises-of-derivation R;
+  sides-are = sides-are;
+  in-goals = Asked.in-goals;
+  in-statements = Asked.in-statements;
+  independent-exactly = independent-exactly speaks R (lawful .decides);
+  not-independent-exactly = not-independent-exactly speaks R (lawful .decides);
+  with-deputies = Asked.with-deputies;
+  same-proofs = same-proofs R;
+  both-or-neither = both-or-neither R;
+  never-opened = never-opened R;
+  others-are = Asked.others-are;
+  same-words = same-words speaks R (lawful .decides);
+  never-signs = never-signs speaks;
+  without-paper = Asked.without-paper;
+  matters = Asked.matters;
+  need-not-matter = Asked.need-not-matter R;
+  steps-unread = steps-unread speaks;
+  any-steps = Asked.any-steps;
+  refused-in-order = refused-exactly speaks;
+  of-a = Asked.of-a;
+  order = Asked.order;
 }

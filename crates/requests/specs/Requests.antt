@@ -15,6 +15,11 @@ use Rattle.line.specs.Printed.{OneLine, LineOfGrant}
 use Rattle.sentences.specs.Promises.{TextOfDerivation, LinePerStep, SameLines, SameText}
 use Rattle.sentences.specs.Feeds.{FeedPerLine}
 use Rattle.sentences.specs.Samples.{TextOfA, OtherNumbers, TextOfEveryRule, Answers, LentAfter}
+use Rattle.independence.specs.SameProofs.{SameProofs, BothOrNeither, NeverOpened}
+use Rattle.independence.specs.Promises.{IndependentExactly, NotIndependentExactly, StepsUnread, SameWords, NeverSigns}
+use Rattle.independence.specs.Promises as Independence
+use Rattle.independence.specs.Samples as Asked
+use Rattle.logic.specs.Sides.{SidesAre}
 use Rattle.requests.specs.Order.{SignersRise, ReleaseGrants, OrderNotFree, OnePossibleLine, CountStays}
 use Rattle.requests.specs.Sentences.{ReleaseWritten, ElseRefused}
 use Rattle.requests.specs.WhoCarried.{EightCounts, EightOfSentences, EightStands}
@@ -71,6 +76,36 @@ pub record Requests (speaks : ℕ → ℕ → Bool) (R : Relation) : Type 0 wher
   pub count-per-rule : CountPerRule speaks
   pub premises-counted : PremisesCounted speaks
   pub premises-of-derivation : PremisesOfDerivation R
+  -- Job 5. "Sides: a goal stands on the proving side, a statement on the given side; operands keep the side, but the
+  -- left of an implies takes the other." (logic/specs/Sides.antt) In samples, on either side:
+  pub sides-are : SidesAre
+  pub in-goals : Asked.InGoals
+  pub in-statements : Asked.InStatements
+  -- "For a principal K the test says independent exactly when no says-formula of K stands on the proving side of the
+  -- goal or of any statement, leaving out statements that are themselves K says something."
+  pub independent-exactly : IndependentExactly speaks R
+  pub not-independent-exactly : NotIndependentExactly speaks R
+  pub with-deputies : Asked.WithDeputies
+  -- "Then each proof of the goal is also one, step by step, after K's statements are taken out or exchanged for other
+  -- statements of K": over derivations, "for formulas of every depth",
+  pub same-proofs : SameProofs R
+  pub both-or-neither : BothOrNeither R
+  pub never-opened : NeverOpened R
+  pub others-are : Asked.OthersAre
+  -- and "within the limits": over step words, with the same grants and the same signers, of whom K is none.
+  pub same-words : SameWords speaks R
+  pub never-signs : NeverSigns speaks
+  pub without-paper : Asked.WithoutPaper
+  -- What the other answer doesn't say: that K's papers do matter.
+  pub matters : Asked.Matters
+  pub need-not-matter : Asked.NeedNotMatter R
+  -- "The test reads a record but not its steps,
+  pub steps-unread : StepsUnread speaks
+  pub any-steps : Asked.AnySteps
+  -- so 1 to 7 apply. Refused: 17, after 7, the principal's number is above 4,095; place 0."
+  pub refused-in-order : Independence.RefusedExactly speaks
+  pub of-a : Asked.OfA
+  pub order : Asked.Order
 
 -- For every test that decides a reflexive and transitive relation.
 abbrev pub ForEveryRelation : Type 1
