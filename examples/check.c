@@ -1,7 +1,8 @@
 /*
  * Checks the record or the exchange file that is named, and prints the line of document 01; or prints a record's proof
- * in sentences. The exit status is 0 for granted and equal, 1 for refused, and 2 where there is no verdict, because the
- * file cannot be read or what it prints cannot be written. At the top of the repository:
+ * in sentences; or tests whether its goal is independent of a principal. The exit status is 0 for granted, equal and
+ * independent, 1 for refused and not independent, and 2 where there is no verdict, because the file cannot be read or
+ * what it prints cannot be written. At the top of the repository:
  *
  *     rt staticlib ffi
  *     cc -Iinclude examples/check.c target/staticlib/libffi.a -o target/check
@@ -84,16 +85,34 @@ static int print_sentences(const uint8_t *file, size_t length) {
     return ferror(stdout) ? 2 : 0;
 }
 
+static int print_independence(uint64_t answer) {
+    if (wethrynda_number(answer) != 0) {
+        return print_refused(answer);
+    }
+    printf("%s\n", wethrynda_is_independent(answer) ? "independent" : "not independent");
+    return wethrynda_is_independent(answer) ? 0 : 1;
+}
+
+/* Whether the word is a number in figures. One that is too large counts as 65,535, which is no principal's. */
+static int is_principal(const char *word, uint16_t *principal) {
+    unsigned long number = strtoul(word, NULL, 10);
+    *principal = number < UINT16_MAX ? (uint16_t)number : UINT16_MAX;
+    return *word != '\0' && word[strspn(word, "0123456789")] == '\0';
+}
+
 int main(int argc, char **argv) {
+    uint16_t principal = 0;
     int is_record = argc == 3 && strcmp(argv[1], "record") == 0;
     int is_exchange = argc == 3 && strcmp(argv[1], "exchange") == 0;
     int is_sentences = argc == 3 && strcmp(argv[1], "sentences") == 0;
-    if (!is_record && !is_exchange && !is_sentences) {
-        fprintf(stderr, "usage: check record FILE, check exchange FILE, or check sentences FILE\n");
+    int is_independent = argc == 4 && strcmp(argv[1], "independent") == 0 && is_principal(argv[2], &principal);
+    if (!is_record && !is_exchange && !is_sentences && !is_independent) {
+        fprintf(stderr, "usage: check record FILE, check exchange FILE, check sentences FILE, or\n"
+                        "       check independent PRINCIPAL FILE\n");
         return 2;
     }
     size_t length;
-    uint8_t *file = read_whole(argv[2], &length);
+    uint8_t *file = read_whole(argv[argc - 1], &length);
     if (file == NULL) {
         return 2;
     }
@@ -104,8 +123,10 @@ int main(int argc, char **argv) {
         status = print_record(answer, signers);
     } else if (is_exchange) {
         status = print_exchange(wethrynda_exchange(file, length));
-    } else {
+    } else if (is_sentences) {
         status = print_sentences(file, length);
+    } else {
+        status = print_independence(wethrynda_independent(file, length, principal));
     }
     free(file);
     return fflush(stdout) == 0 ? status : 2;

@@ -1,13 +1,14 @@
 /*
- * Wethrynda: the checks of release records and of exchange files, and the proof of a record in sentences, for C. The
- * library is target/staticlib/libffi.a, for x86-64 Linux; `rt staticlib ffi` at the top of the repository makes it.
- * Link it by its path, as examples/check.c is linked: another library has the name `ffi` too.
+ * Wethrynda: the checks of release records and of exchange files, the proof of a record in sentences, and the test
+ * whether a principal can matter to a record's goal, for C. The library is target/staticlib/libffi.a, for x86-64 Linux;
+ * `rt staticlib ffi` at the top of the repository makes it. Link it by its path, as examples/check.c is linked: another
+ * library has the name `ffi` too.
  *
- * wethrynda_check_record, wethrynda_check_exchange and wethrynda_write_sentences are written and proved in Rattle.
- * Their contracts are in crates/ffi/src/lib.rt and decide where a comment here is unclear. Nothing checks these
- * declarations against them. A caller in C should use the inline functions wethrynda_record, wethrynda_exchange and
- * wethrynda_sentences, since in C an empty file, list or text may be a null pointer, which the proved functions must
- * not be given.
+ * wethrynda_check_record, wethrynda_check_exchange, wethrynda_write_sentences and wethrynda_independent_of are written
+ * and proved in Rattle. Their contracts are in crates/ffi/src/lib.rt and decide where a comment here is unclear.
+ * Nothing checks these declarations against them. A caller in C should use the inline functions wethrynda_record,
+ * wethrynda_exchange, wethrynda_sentences and wethrynda_independent, since in C an empty file, list or text may be a
+ * null pointer, which the proved functions must not be given.
  */
 #ifndef WETHRYNDA_H
 #define WETHRYNDA_H
@@ -124,6 +125,30 @@ static inline uint64_t wethrynda_sentences(const uint8_t *file, size_t file_leng
 }
 
 /*
+ * Tests whether the papers of the principal with this number could touch the goal of the record in the bytes file[0] ..
+ * file[file_length - 1], any bytes of any number, and answers one number, which the functions below take apart. The
+ * words of the steps are counted and never looked at. It makes every test itself and always answers: it allocates
+ * nothing, reads and writes no file, and keeps nothing from call to call. What is lent, the file, is not changed.
+ *
+ * Independent, which is 0: each proof of the goal stays one, step by step, after the statements K says A of this
+ * principal K are taken out or exchanged for others of his within the limits. The record as it is may be granted or
+ * refused.
+ * Not independent, which is 1: his papers may matter. That they do is not said.
+ * Refused: 1 to 7 as for a record; and after them 17, place 0: the principal's number is above 4095.
+ *
+ * What the caller sees to, since the function cannot test it:
+ * - The pointer and the file, as for an exchange file.
+ * - The thread has about 160 KB of stack left: the table is held and searched for repeated entries there.
+ */
+uint64_t wethrynda_independent_of(const uint8_t *file, size_t file_length, uint16_t principal);
+
+/* The same test, where a null pointer with length 0 is right too, as in wethrynda_record. */
+static inline uint64_t wethrynda_independent(const uint8_t *file, size_t file_length, uint16_t principal) {
+    const uint8_t no_bytes = 0;
+    return wethrynda_independent_of(file == NULL && file_length == 0 ? &no_bytes : file, file_length, principal);
+}
+
+/*
  * Of a record's answer, or that of its sentences: whether it was granted; else it was refused. (Refused by 16, a record
  * is granted, and its text is longer than what was lent.)
  */
@@ -135,16 +160,20 @@ static inline uint32_t wethrynda_count(uint64_t answer) { return (uint32_t)(answ
 /* Of an exchange file's answer only: whether it shows that its lists are equal in force; else it is refused. */
 static inline bool wethrynda_is_equal(uint64_t answer) { return answer >> 32 == 0; }
 
+/* Of an answer about a principal only: whether the goal is independent of him; else it is not, or it is refused. */
+static inline bool wethrynda_is_independent(uint64_t answer) { return answer == 0; }
+
 /*
- * Of a refused record or exchange file: the refusal's number, 1 to 15, or of sentences 1 to 16, which says why
- * (samples/README.md has the list). 0 if it is not refused.
+ * Of a refused record or exchange file: the refusal's number, 1 to 15, or of sentences 1 to 16, of a principal 1 to 7
+ * and 17, which says why (samples/README.md has the list). 0 if it is not refused, and so where a goal is not
+ * independent.
  */
 static inline uint32_t wethrynda_number(uint64_t answer) { return (uint32_t)(answer >> 32); }
 
 /*
  * Of a refused record or exchange file: the place, counted from 0: the entry, the statement or the step where the
  * reason was found, or 0. In an exchange file statements are counted through the first list and then the second, and
- * steps through all proofs.
+ * steps through all proofs. It says nothing of what is not refused.
  */
 static inline uint32_t wethrynda_place(uint64_t answer) { return (uint32_t)(answer & 0xffffffffu); }
 

@@ -2,4 +2,5 @@
 pub mod Refusals
 pub mod Tells
 pub mod ExchangeTells
+pub mod IndependenceTells
 pub mod SentencesTells

@@ -2,4 +2,5 @@
 pub mod RefusalCode
 pub mod Code
 pub mod ExchangeCode
+pub mod IndependenceCode
 pub mod SentencesCode

@@ -1,5 +1,5 @@
 // The checks for C and Rust. `include/wethrynda.h` declares them for C, and the package in `rust/` wraps them for Rust.
-// Nothing checks these declarations against this file, so there are three functions here, on byte and word slices, and
+// Nothing checks these declarations against this file, so there are four functions here, on byte and word slices, and
 // they ask nothing of their caller.
 ghost use Prim.Native.Nat.{_≤_};
 ghost use mathlib.Core.Path.{_≡_};
@@ -10,20 +10,25 @@ ghost use Rattle.record.specs.ListAfter.{listAfter};
 ghost use Rattle.record.specs.Promises.{Small};
 ghost use Rattle.exchange.specs.Figure1.{exchangeAnswer};
 ghost use Rattle.exchange.specs.Promises.{Small as ExchangeSmall};
+ghost use Rattle.independence.specs.Figure1.{independenceAnswer};
+ghost use Rattle.independence.specs.Promises.{Small as IndependenceSmall};
 ghost use Rattle.sentences.specs.Answer.{signersAfter};
 ghost use Rattle.sentences.specs.Figure1.{sentencesAnswer, textAfter};
 ghost use Rattle.ffi.specs.RefusalCode.{refusalCode};
 ghost use Rattle.ffi.specs.Code.{answerCode};
 ghost use Rattle.ffi.specs.ExchangeCode.{exchangeCode};
+ghost use Rattle.ffi.specs.IndependenceCode.{independenceCode};
 ghost use Rattle.ffi.specs.SentencesCode.{sentencesCode, countAfter, PlaceWithin};
 use exchange::verdict::ExchangeVerdict;
 use exchange_check::check::check_exchange;
+use independence::verdict::IndependenceVerdict;
+use independence_check::check::independent_of;
 use record::verdict::RecordVerdict;
 use record_check::check::check_record;
 use sentences::verdict::SentencesVerdict;
 use sentences_write::write::write_sentences;
 
-// One number for a refusal within its bounds, of a record or of an exchange file.
+// One number for a refusal within its bounds, of whatever call.
 fn refusal_code(number: u8, place: usize) -> u64
     requires { ⌜ place ≤ mostSteps ⌝ }
     ensures { λ r. ⌜ r ≡ refusalCode number place ⌝ }
@@ -50,6 +55,18 @@ fn exchange_code(verdict: ExchangeVerdict) -> u64
     match verdict {
         ExchangeVerdict::Equal => 0,
         ExchangeVerdict::Refused { number, place } => refusal_code(number, place),
+    }
+}
+
+// And for an answer whether a principal can matter.
+fn independence_code(verdict: IndependenceVerdict) -> u64
+    requires { ⌜ IndependenceSmall verdict ⌝ }
+    ensures { λ r. ⌜ r ≡ independenceCode verdict ⌝ }
+{
+    match verdict {
+        IndependenceVerdict::Independent => 0,
+        IndependenceVerdict::NotIndependent => 1,
+        IndependenceVerdict::Refused { number, place } => refusal_code(number, place),
     }
 }
 
@@ -97,6 +114,16 @@ pub extern "C" fn wethrynda_check_exchange(file: &[u8]) -> u64
 {
     let verdict = check_exchange(file);
     exchange_code(verdict)
+}
+
+// Whether a principal's papers can touch a record's goal (02, job 5), as one number: 0 for independent, 1 for not
+// independent, or a refusal's number × 2^32 + its place. Nothing but the file is lent.
+#[no_mangle]
+pub extern "C" fn wethrynda_independent_of(file: &[u8], principal: u16) -> u64
+    ensures { λ r. ⌜ r ≡ independenceCode (independenceAnswer (now (file .entry)) principal) ⌝ }
+{
+    let verdict = independent_of(file, principal);
+    independence_code(verdict)
 }
 
 // A record's proof in sentences, and its signers, as `write_sentences` leaves them in what is lent. As one number: the

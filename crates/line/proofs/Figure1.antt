@@ -1,6 +1,6 @@
 -- The same at "the same K" (specs/Figure1.antt). Assumes nothing.
 use Rattle.steps.specs.Figure1.{same}
-use Rattle.line.specs.Figure1.{LineOfCall, OneLine, LineOfGrant, WholeLine, WholeExchangeLine}
+use Rattle.line.specs.Figure1.{LineOfCall, OneLine, LineOfGrant, WholeLine, WholeExchangeLine, WholeIndependenceLine}
 use Rattle.line.proofs.Printed as Any
 
 pub line-of-call : LineOfCall
@@ -17,3 +17,6 @@ whole-line = Any.whole-line same
 
 pub whole-exchange-line : WholeExchangeLine
 whole-exchange-line = Any.whole-exchange-line same
+
+pub whole-independence-line : WholeIndependenceLine
+whole-independence-line = Any.whole-independence-line same

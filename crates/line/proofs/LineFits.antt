@@ -1,5 +1,5 @@
--- The promises of specs/RecordLine.antt and specs/ExchangeLine.antt: every line of an answer fits into `mostLine`
--- bytes. Assumes nothing.
+-- The promises of specs/RecordLine.antt, ExchangeLine.antt and IndependenceLine.antt: every line of an answer fits into
+-- `mostLine` bytes. Assumes nothing.
 use Prim.Native.Nat.{ℕ, zero, suc, _+_, _*_, _≤_, _<_}
 use native.Mathlib.Omega.{arith}
 use mathlib.Core.Path.{refl}
@@ -12,9 +12,11 @@ use Rattle.text.specs.Decimal.{decimal}
 use Rattle.text.proofs.Digits.{decimal-length}
 use Rattle.record.specs.declared.verdict.RecordVerdict.the-variants.{Granted, Refused}
 use Rattle.exchange.specs.declared.verdict.ExchangeVerdict.the-variants.{Equal, Refused as ExchangeRefused}
+use Rattle.independence.specs.declared.verdict.IndependenceVerdict.the-variants as Independence
 use Rattle.line.specs.RefusedLine.{refusedLine}
 use Rattle.line.specs.RecordLine.{listed, recordLine, LineFits}
 use Rattle.line.specs.ExchangeLine.{exchangeLine, ExchangeLineFits}
+use Rattle.line.specs.IndependenceLine.{independenceLine, IndependenceLineFits}
 
 -- A word of 16 bits after a blank has 6 bytes at most,
 listed-fits : (count : ℕ) (ks : List ℕ) → ((k : ℕ) → k ∈ ks → k < 65536) → length (listed (take count ks)) ≤ count * 6
@@ -66,4 +68,12 @@ pub exchange-line-fits : ExchangeLineFits
 unfolding ascii exchangeLine
 exchange-line-fits Equal s = omega arith
 exchange-line-fits (ExchangeRefused number place) s = omega
+    (arith, refused-fits number place (omega (arith, s .1)) (s .2))
+
+-- `not independent` and its line feed have 16.
+pub independence-line-fits : IndependenceLineFits
+unfolding ascii independenceLine
+independence-line-fits Independence.Independent s = omega arith
+independence-line-fits Independence.NotIndependent s = omega arith
+independence-line-fits (Independence.Refused number place) s = omega
     (arith, refused-fits number place (omega (arith, s .1)) (s .2))

@@ -27,13 +27,16 @@ use Rattle.record.proofs.Granted.{granted-exactly}
 use Rattle.record.proofs.Small.{answers-small}
 use Rattle.exchange.specs.Answer.{exchangeAnswer}
 use Rattle.exchange.proofs.Small.{answers-small as exchange-answers-small}
+use Rattle.independence.specs.Answer.{independenceAnswer}
+use Rattle.independence.proofs.Small.{answers-small as independence-answers-small}
 use Rattle.line.specs.Line.{lineAfter, lineCount}
 use Rattle.text.specs.Ascii.{ascii}
 use Rattle.text.specs.Decimal.{decimal}
 use Rattle.line.specs.RecordLine.{listed, recordLine}
 use Rattle.line.specs.ExchangeLine.{exchangeLine}
-use Rattle.line.specs.Printed.{LineOfCall, OneLine, LineOfGrant, WholeLine, WholeExchangeLine}
-use Rattle.line.proofs.LineFits.{line-fits, exchange-line-fits}
+use Rattle.line.specs.IndependenceLine.{independenceLine}
+use Rattle.line.specs.Printed.{LineOfCall, OneLine, LineOfGrant, WholeLine, WholeExchangeLine, WholeIndependenceLine}
+use Rattle.line.proofs.LineFits.{line-fits, exchange-line-fits, independence-line-fits}
 
 -- ---- a call
 
@@ -114,3 +117,8 @@ pub whole-exchange-line : (speaks : ℕ → ℕ → Bool) → WholeExchangeLine 
 whole-exchange-line speaks file before count after counted is room =
     let fits = exchange-line-fits (exchangeAnswer speaks file) (exchange-answers-small speaks file) in
     fits-whole before (exchangeLine (exchangeAnswer speaks file)) (omega arith) counted is
+
+pub whole-independence-line : (speaks : ℕ → ℕ → Bool) → WholeIndependenceLine speaks
+whole-independence-line speaks file before K count after counted is room =
+    let fits = independence-line-fits (independenceAnswer speaks file K) (independence-answers-small speaks file K) in
+    fits-whole before (independenceLine (independenceAnswer speaks file K)) (omega arith) counted is

@@ -22,3 +22,6 @@ WholeLine = Any.WholeLine same
 
 abbrev pub WholeExchangeLine : Type 0
 WholeExchangeLine = Any.WholeExchangeLine same
+
+abbrev pub WholeIndependenceLine : Type 0
+WholeIndependenceLine = Any.WholeIndependenceLine same

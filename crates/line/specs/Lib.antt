@@ -4,6 +4,7 @@ pub mod Line
 pub mod RefusedLine
 pub mod RecordLine
 pub mod ExchangeLine
+pub mod IndependenceLine
 pub mod Printed
 pub mod Figure1
 pub mod Samples

@@ -13,9 +13,11 @@ use Rattle.record.specs.Layout.{signers}
 use Rattle.record.specs.Answer.{recordAnswer}
 use Rattle.record.specs.ListAfter.{listAfter}
 use Rattle.exchange.specs.Answer.{exchangeAnswer}
+use Rattle.independence.specs.Answer.{independenceAnswer}
 use Rattle.line.specs.Line.{lineAfter, lineCount}
 use Rattle.line.specs.RecordLine.{recordLine, mostLine}
 use Rattle.line.specs.ExchangeLine.{exchangeLine}
+use Rattle.line.specs.IndependenceLine.{independenceLine}
 
 module _ (speaks : ℕ → ℕ → Bool) where
   -- for a record: the line of the answer where 256 words are lent, with the record's signers
@@ -58,10 +60,18 @@ module _ (speaks : ℕ → ℕ → Bool) where
       → count ≡ lineCount before (printedLine file) → after ≡ lineAfter before (printedLine file)
       → mostLine ≤ length before → after ≡ printedLine file ++ drop count before
 
-  -- and for an exchange file.
+  -- for an exchange file,
   abbrev pub WholeExchangeLine : Type 0
   WholeExchangeLine =
       (file before : List ℕ) (count : ℕ) (after : List ℕ)
       → count ≡ lineCount before (exchangeLine (exchangeAnswer speaks file))
       → after ≡ lineAfter before (exchangeLine (exchangeAnswer speaks file))
       → mostLine ≤ length before → after ≡ exchangeLine (exchangeAnswer speaks file) ++ drop count before
+
+  -- and for a record and a principal.
+  abbrev pub WholeIndependenceLine : Type 0
+  WholeIndependenceLine =
+      (file before : List ℕ) (K count : ℕ) (after : List ℕ)
+      → count ≡ lineCount before (independenceLine (independenceAnswer speaks file K))
+      → after ≡ lineAfter before (independenceLine (independenceAnswer speaks file K))
+      → mostLine ≤ length before → after ≡ independenceLine (independenceAnswer speaks file K) ++ drop count before

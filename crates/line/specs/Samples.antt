@@ -14,20 +14,27 @@ use Rattle.exchange.specs.declared.verdict.ExchangeVerdict.{ExchangeVerdict}
 use Rattle.exchange.specs.declared.verdict.ExchangeVerdict.the-variants.{Equal, Refused as ExchangeRefused}
 use Rattle.exchange.specs.Figure1.{exchangeAnswer}
 use Rattle.exchange.specs.Samples.{K}
+use Rattle.independence.specs.declared.verdict.IndependenceVerdict.{IndependenceVerdict}
+use Rattle.independence.specs.declared.verdict.IndependenceVerdict.the-variants.{Independent, NotIndependent, Refused as IndependenceRefused}
+use Rattle.independence.specs.Figure1.{independenceAnswer}
 use Rattle.line.specs.RecordLine.{recordLine}
 use Rattle.line.specs.ExchangeLine.{exchangeLine}
+use Rattle.line.specs.IndependenceLine.{independenceLine}
 
 -- a row: the bytes by the definitions, and the line in quotes
 pub record Sample : Type 0 where
   pub bytes : List ℕ
   pub line : String
 
--- the row of a record's answer and the lent list, and that of an exchange's answer
+-- the row of a record's answer and the lent list, of an exchange's answer, and of an answer about a principal
 abbrev pub row : RecordVerdict → List ℕ → String → Sample
 row answer signers line = record { bytes = recordLine answer signers; line = line }
 
 abbrev pub exchangeRow : ExchangeVerdict → String → Sample
 exchangeRow answer line = record { bytes = exchangeLine answer; line = line }
+
+abbrev pub independenceRow : IndependenceVerdict → String → Sample
+independenceRow answer line = record { bytes = independenceLine answer; line = line }
 
 -- the answer for a record of these words, with a list of 256 words lent, as the program does
 abbrev pub answerOf : List ℕ → RecordVerdict
@@ -47,6 +54,10 @@ rows =
     ∷ exchangeRow (ExchangeRefused 12 0) "refused 12 place 0\n"
     ∷ exchangeRow (ExchangeRefused 9 16384) "refused 9 place 16384\n"
     ∷ exchangeRow (exchangeAnswer (fileOf K)) "equal\n"
+    ∷ independenceRow Independent "independent\n"
+    ∷ independenceRow NotIndependent "not independent\n"
+    ∷ independenceRow (IndependenceRefused 17 0) "refused 17 place 0\n"
+    ∷ independenceRow (independenceAnswer (fileOf (overT (1 ∷ []) 1 (0 ∷ []))) 7) "not independent\n"
     ∷ []
 
 abbrev pub Samples : Type 0

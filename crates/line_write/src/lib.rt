@@ -2,6 +2,7 @@
 // line, and the line of an answer.
 pub mod exchange_line;
 mod granted;
+pub mod independence_line;
 mod measure;
 pub mod record_line;
 mod refused;

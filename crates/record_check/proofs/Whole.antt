@@ -47,8 +47,8 @@ module _ (file : List ℕ) where
   -- ---- 2 and 4 to 15
 
   module _ (s : Sized file) where
-    -- the arrays have the sizes that 2 allows
-    sizes-fit : sizesFit (heads file) (seconds file) (statements file) ≡ true
+    -- The arrays have the sizes that 2 allows,
+    pub sizes-fit : sizesFit (heads file) (seconds file) (statements file) ≡ true
     sizes-fit =
         let r = s .in-range in
         let F = length-heads file s in

@@ -4,7 +4,9 @@ ghost use Prim.Native.Nat.{_≤_};
 ghost use mathlib.Core.Path.{_≡_};
 ghost use lib.ListN.{length, replicate, take};
 ghost use Rattle.exchange.specs.Figure1.{exchangeAnswer};
+ghost use Rattle.independence.specs.Figure1.{independenceAnswer};
 ghost use Rattle.line.specs.ExchangeLine.{exchangeLine};
+ghost use Rattle.line.specs.IndependenceLine.{independenceLine};
 ghost use Rattle.line.specs.Line.{lineAfter, lineCount};
 ghost use Rattle.line.specs.Figure1.{printedLine};
 ghost use Rattle.line.specs.RecordLine.{mostLine};
@@ -12,7 +14,9 @@ ghost use Rattle.sentences.specs.Printed.{mostText};
 ghost use Rattle.sentences.specs.Figure1.{printedText};
 use basics::limits::MOST_STATEMENTS;
 use exchange_check::check::check_exchange;
+use independence_check::check::independent_of;
 use line_write::exchange_line::write_exchange_line;
+use line_write::independence_line::write_independence_line;
 use line_write::record_line::write_record_line;
 use record::verdict::RecordVerdict;
 use record_check::check::check_record;
@@ -23,7 +27,7 @@ use sentences_write::write::write_sentences;
 // a blank.
 const MOST_LINE: usize = 8 + 3 + MOST_STATEMENTS * 6 + 1;
 
-// Bytes for a line, all 0: every line has room (`WholeLine`, `WholeExchangeLine`).
+// Bytes for a line, all 0: every line has room (`WholeLine`, `WholeExchangeLine`, `WholeIndependenceLine`).
 pub fn line_buffer() -> [u8; MOST_LINE]
     ensures { λ r. ⌜ r ≡ replicate mostLine 0 ⌝ }
 {
@@ -59,6 +63,17 @@ pub fn exchange_line(file: &[u8], line: &mut [u8]) -> usize
 {
     let verdict = check_exchange(file);
     write_exchange_line(verdict, line)
+}
+
+// Tests whether a principal's papers can touch a record's goal, and writes the line of the answer as
+// `write_independence_line` does.
+pub fn independence_line(file: &[u8], principal: u16, line: &mut [u8]) -> usize
+    ensures { λ r. ⌜ r ≡ lineCount (now (line .entry)) (independenceLine (independenceAnswer (now (file .entry)) principal)) ⌝ }
+    ensures { λ _. ⌜ now (line .exit) ≡ lineAfter (now (line .entry)) (independenceLine (independenceAnswer (now (file .entry)) principal)) ⌝ }
+    ensures { λ r. ⌜ (r ≤ length (now (line .exit))) × (r ≡ length (take r (now (line .exit)))) ⌝ }
+{
+    let verdict = independent_of(file, principal);
+    write_independence_line(verdict, line)
 }
 
 // Writes a record's proof in sentences, lending a list of 256 words, or the line of a refusal as `write_record_line`

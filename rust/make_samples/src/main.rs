@@ -1,5 +1,5 @@
-//! Makes the samples, the proofs of granted ones in sentences, their index pages, and what the
-//! program `samples` is run on and must print.
+//! Makes the samples, the proofs of granted ones in sentences, the lines of principals who are
+//! asked about, their index pages, and what the program `samples` is run on and must print.
 //!
 //!     cargo run --release --bin make_samples            writes into the repository
 //!     cargo run --release --bin make_samples -- FOLDER  writes the same files under FOLDER
@@ -33,8 +33,8 @@ fn main() -> io::Result<()> {
     fs::write(program.join("stdout"), printed)
 }
 
-/// Writes samples, their sentences and their page into a program's folder, and gives the name and
-/// the line of each sample.
+/// Writes samples, what stands beside them and their page into a program's folder, and gives the
+/// name and the line of each sample.
 /// The program is run in a copy of its folder data/, which may be no link: so `samples` at the top
 /// is a link to it.
 fn write<T: Kind>(
@@ -51,7 +51,7 @@ fn write<T: Kind>(
         .map(|sample| {
             let name = sample.file_name();
             fs::write(folder.join(&name), &sample.file)?;
-            if let Some((name, text)) = sample.sentences() {
+            for (name, text) in [sample.sentences(), sample.independence()].into_iter().flatten() {
                 fs::write(folder.join(name), text)?;
             }
             Ok((name, sample.line))

@@ -10,7 +10,7 @@ const EXCHANGES: &str = include_str!("../pages/exchanges.md");
 
 /// The reasons and the places of "Refused, in checking order" (01), and what 02 adds, by number from
 /// 1.
-const REFUSALS: [(&str, &str); 16] = [
+const REFUSALS: [(&str, &str); 17] = [
     ("The file has fewer than 8 bytes.", "0"),
     ("F, S or N is outside its range.", "0"),
     ("The length isn't that of the sizes.", "0"),
@@ -38,18 +38,23 @@ const REFUSALS: [(&str, &str); 16] = [
          text.",
         "0",
     ),
+    (
+        "Only where a principal is asked about, and nothing is tested after it: the principal's \
+         number is above 4,095.",
+        "0",
+    ),
 ];
 
-/// The checking order: 8 "is tested after 15 and before 16" (02).
-const ORDER: [usize; 16] = [1, 2, 3, 4, 5, 6, 7, 9, 10, 11, 12, 13, 14, 15, 8, 16];
+/// The checking order: 8 "is tested after 15 and before 16", and 17 "after 7" (02).
+const ORDER: [usize; 17] = [1, 2, 3, 4, 5, 6, 7, 17, 9, 10, 11, 12, 13, 14, 15, 8, 16];
 
 /// What reads otherwise for an exchange file: "the list above without 6 and 8. Places for 7 run
 /// through both lists, for 9 to 15 through all step words; depth starts at 1 in each proof". It has
-/// no sentences.
+/// no sentences, and nobody is asked about.
 fn exchange_refusal(number: usize) -> Option<(&'static str, &'static str)> {
     match number {
         2 => Some(("F, S1, S2 or N is outside its range.", "0")),
-        6 | 8 | 16 => None,
+        6 | 8 | 16 | 17 => None,
         7 => Some((
             "A statement's number is F or more.",
             "the first such position, through the first list and then the second",
@@ -88,10 +93,20 @@ fn page<T: Kind>(
             for (heading, rows) in sample.contents.iter().flat_map(T::parts) {
                 text.push_str(&under(heading, rows));
             }
-            writeln!(text, "line        {}\n```", sample.line).unwrap();
+            text.push_str(&under("line", vec![sample.line.to_string()]));
+            if !sample.asked.is_empty() {
+                text.push_str(&under("principals", asked(&sample.asked)));
+            }
+            text.push_str("```\n");
         }
     }
     text
+}
+
+/// A row for each principal who is asked about.
+fn asked(asked: &[(u16, &str)]) -> Vec<String> {
+    let width = asked.iter().map(|(principal, _)| principal.to_string().len()).max().unwrap_or(0);
+    asked.iter().map(|(principal, line)| format!("{principal:<width$}  {line}")).collect()
 }
 
 /// Words in lines of at most 100 characters, with `turn` between two lines.

@@ -23,13 +23,15 @@ pub trait Kind {
 
 /// One file: its name without the ending, what it shows, its bytes, and the line that the program
 /// prints for it. `contents` is what the page writes in words; a file that is damaged, or too long
-/// for the page, has none.
+/// for the page, has none. `asked` is for some records: principals' numbers, rising, each with the
+/// line that the program prints for the question whether he can matter.
 pub struct Sample<T> {
     pub name: &'static str,
     pub shows: &'static str,
     pub contents: Option<T>,
     pub file: Vec<u8>,
     pub line: &'static str,
+    pub asked: Vec<(u16, &'static str)>,
 }
 
 impl<T: Kind> Sample<T> {
@@ -42,6 +44,19 @@ impl<T: Kind> Sample<T> {
     pub fn sentences(&self) -> Option<(String, String)> {
         let granted = self.contents.as_ref().filter(|_| self.line.starts_with("granted"));
         Some((format!("{}.sentences", self.name), granted?.sentences()?))
+    }
+
+    /// The name and the text of the file with the lines of the principals who are asked about, if
+    /// any are.
+    pub fn independence(&self) -> Option<(String, String)> {
+        let lines = self.asked.iter().map(|(principal, line)| format!("{principal} {line}\n"));
+        let text: String = lines.collect();
+        (!text.is_empty()).then(|| (format!("{}.independent", self.name), text))
+    }
+
+    /// The same sample, with these principals asked about.
+    pub fn asked(self, asked: &[(u16, &'static str)]) -> Self {
+        Sample { asked: asked.to_vec(), ..self }
     }
 }
 
@@ -57,7 +72,7 @@ pub fn sample<T: Kind>(
     contents: T,
     line: &'static str,
 ) -> Sample<T> {
-    Sample { name, shows, file: contents.bytes(), contents: Some(contents), line }
+    Sample { name, shows, file: contents.bytes(), contents: Some(contents), line, asked: vec![] }
 }
 
 /// A sample of which the page has no more than what it shows.
@@ -67,5 +82,5 @@ pub fn bare<T>(
     file: Vec<u8>,
     line: &'static str,
 ) -> Sample<T> {
-    Sample { name, shows, file, contents: None, line }
+    Sample { name, shows, file, contents: None, line, asked: vec![] }
 }

@@ -75,7 +75,47 @@ fn every_sample_has_a_line() {
     let sentences: Vec<String> = granted(&lines);
     names.extend(sentences.iter().map(String::as_str).chain(["README.md", "EXCHANGES.md"]));
     names.sort();
-    assert_eq!(files(&top().join(LINK)).keys().collect::<Vec<_>>(), names);
+    let files = files(&top().join(LINK)).into_keys();
+    let others: Vec<String> = files.filter(|name| !name.ends_with(INDEPENDENT)).collect();
+    assert_eq!(others, names);
+}
+
+/// How the names of the files end that have the lines of principals.
+const INDEPENDENT: &str = ".independent";
+
+/// Each stands beside a record, and its principals rise.
+#[test]
+fn principals_have_lines() {
+    let files = files(&top().join(LINK));
+    let mut count = 0;
+    for (name, text) in &files {
+        let Some(sample) = name.strip_suffix(INDEPENDENT) else { continue };
+        assert!(files.contains_key(&format!("{sample}.record")), "{name}");
+        let text = std::str::from_utf8(text).expect(name);
+        let parted = text.lines().map(|line| line.split_once(' ').expect(line));
+        let lines: Vec<(u16, &str)> =
+            parted.map(|(principal, line)| (principal.parse().expect(line), line)).collect();
+        assert!(lines.is_sorted_by_key(|&(principal, _)| principal) && !lines.is_empty(), "{name}");
+        for (principal, line) in lines {
+            assert!(is_line("independent", line), "{name}: {principal} {line}");
+        }
+        count += 1;
+    }
+    assert!(count >= 16, "{count} records have lines of principals");
+}
+
+/// "no says-formula of K stands on the proving side of the goal or of any statement, leaving out
+/// statements that are themselves K says something", and "17, after 7" (02); written out by hand.
+#[test]
+fn principals_by_hand() {
+    let read = |name: &str| fs::read_to_string(top().join(LINK).join(name)).expect(name);
+    assert_eq!(
+        read("A.independent"),
+        "7 not independent\n8 independent\n4095 independent\n4096 refused 17 place 0\n\
+         65535 refused 17 place 0\n"
+    );
+    assert_eq!(read("M.independent"), "7 refused 5 place 1\n4096 refused 5 place 1\n");
+    assert_eq!(read("his-own-paper-left-out.independent"), "7 independent\n8 not independent\n");
 }
 
 /// The names of the files with sentences: one for each record that is granted, but for the one that
@@ -114,11 +154,12 @@ fn sentences_by_hand() {
     );
 }
 
-/// A line of document 01's for a file of that kind, with signers that rise.
+/// A line of the documents' for a file of that kind, with signers that rise.
 fn is_line(ending: &str, line: &str) -> bool {
     let is_number = |word: &str| word.parse().is_ok_and(|number: u16| number.to_string() == word);
     match line.split(' ').collect::<Vec<_>>()[..] {
         ["equal"] => ending == "exchange",
+        ["independent"] | ["not", "independent"] => ending == "independent",
         ["granted", count, ref signers @ ..] => {
             let is_counted = count == signers.len().to_string();
             let numbers: Vec<u16> = signers.iter().filter_map(|word| word.parse().ok()).collect();
@@ -127,9 +168,13 @@ fn is_line(ending: &str, line: &str) -> bool {
             ending == "record" && is_counted && are_numbers && rise
         }
         ["refused", number, "place", place] => {
-            // an exchange file has no goal and no signers
-            let missing = ending == "exchange" && ["6", "8"].contains(&number);
-            let is_known = (1..=15).contains(&number.parse().unwrap_or(0)) && !missing;
+            let value = number.parse().unwrap_or(0);
+            let is_known = match ending {
+                // it has no goal and no signers
+                "exchange" => (1..=15).contains(&value) && ![6, 8].contains(&value),
+                "independent" => (1..=7).contains(&value) || value == 17,
+                _ => (1..=15).contains(&value),
+            };
             is_number(number) && is_known && is_number(place)
         }
         _ => false,

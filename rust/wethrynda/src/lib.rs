@@ -1,10 +1,12 @@
-//! The checks of release records and of exchange files, and the proof of a record in sentences,
-//! which are written and proved in Rattle, for Rust.
+//! The checks of release records and of exchange files, the proof of a record in sentences, and the
+//! test whether a principal can matter to a record's goal, which are written and proved in Rattle,
+//! for Rust.
 //!
-//! The contracts of the functions behind [`check_record`], [`check_exchange`] and
-//! [`write_sentences`] stand in `crates/ffi/src/lib.rt`; what a record and an exchange file are,
-//! and what each refusal means, stands in `crates/record/specs/` and `crates/exchange/specs/`, and
-//! what the text of a proof is in `crates/sentences/specs/`.
+//! The contracts of the functions behind [`check_record`], [`check_exchange`], [`write_sentences`]
+//! and [`independent_of`] stand in `crates/ffi/src/lib.rt`; what a record and an exchange file are,
+//! and what each refusal means, stands in `crates/record/specs/` and `crates/exchange/specs/`, what
+//! the text of a proof is in `crates/sentences/specs/`, and what independent means in
+//! `crates/independence/specs/`.
 
 /// What the check of a record answers.
 #[derive(Clone, Copy, Debug, PartialEq, Eq)]
@@ -41,6 +43,18 @@ pub enum Sentences {
     Refused { number: u8, place: usize },
 }
 
+/// What the test whether a principal can matter to a record's goal answers.
+#[derive(Clone, Copy, Debug, PartialEq, Eq)]
+pub enum Independence {
+    /// Each proof of the goal stays one, step by step, whatever papers of his there are, or none.
+    Independent,
+    /// His papers may matter; that they do is not said.
+    NotIndependent,
+    /// The file is no record, or there is no such principal, which is 17: the number of the first
+    /// reason that applies, from 1 to 7 or 17, and the place where it was found, counted from 0.
+    Refused { number: u8, place: usize },
+}
+
 /// A list of so many words is long enough for the signers of every record.
 pub const MOST_SIGNERS: usize = 256;
 
@@ -64,10 +78,11 @@ extern "C" {
         written: *mut u64,
         written_length: usize,
     ) -> u64;
+    fn wethrynda_independent_of(file: *const u8, file_length: usize, principal: u16) -> u64;
 }
 
 /// The number and the place of a refusal, which is number × 2^32 + place. Every other answer is
-/// less than 2^32. The contracts bound them: number by 16, place by 16,384.
+/// less than 2^32. The contracts bound them: number by 17, place by 16,384.
 fn refusal(answer: u64) -> Option<(u8, usize)> {
     let (high, low) = (answer >> 32, answer & 0xffff_ffff);
     (high != 0).then_some((high as u8, low as usize))
@@ -144,5 +159,22 @@ pub fn write_sentences(file: &[u8], signers: &mut [u16], text: &mut [u8]) -> Sen
         Some((number, place)) => Sentences::Refused { number, place },
         // a count of signers, 256 at most; and no more bytes are written than are lent
         None => Sentences::Written { signers: answer as usize, bytes: written as usize },
+    }
+}
+
+/// Tests whether a principal's papers could touch the goal of a record, any bytes of any length.
+/// Nothing is changed. The record's steps are counted and not looked at, and a list for signers is
+/// not asked for, so 1 to 7 apply, and after them 17: the principal's number is above 4,095.
+///
+/// It needs about 160 KB of stack, which a thread has by default.
+pub fn independent_of(file: &[u8], principal: u16) -> Independence {
+    // SAFETY: the pointer is that of a slice, so it is not null, even where the slice is empty, and
+    // the length is its own. The function's contract asks nothing more, and it is proved to stay
+    // inside what is lent.
+    let answer = unsafe { wethrynda_independent_of(file.as_ptr(), file.len(), principal) };
+    match (refusal(answer), answer) {
+        (Some((number, place)), _) => Independence::Refused { number, place },
+        (None, 0) => Independence::Independent,
+        (None, _) => Independence::NotIndependent,
     }
 }

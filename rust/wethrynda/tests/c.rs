@@ -1,11 +1,12 @@
 //! The header and the library from C: the example program is compiled without a warning, and run on
-//! the samples; and null.c, which hands null pointers to the header's inline functions, and looks
-//! at what is lent to the one for sentences.
+//! the samples; and null.c, which hands null pointers to the header's inline functions, looks at
+//! what is lent to the one for sentences, and takes answers about a principal apart.
 mod common;
 
 use common::{samples, top, Answer};
 use std::path::{Path, PathBuf};
 use std::process::{Command, Output};
+use wethrynda::Independence;
 
 /// A place for a file that a test makes.
 fn made(name: &str) -> PathBuf {
@@ -85,6 +86,38 @@ fn sentences_of_every_record() {
     }
 }
 
+fn independent(program: &Path, principal: &str, file: &Path) -> Output {
+    let run = Command::new(program).args(["independent", principal]).arg(file).output();
+    run.expect("the example program starts")
+}
+
+#[test]
+fn principals_of_samples() {
+    let program = example("check_principals");
+    let of_sample = |name: &str, principal: &str| {
+        let run = independent(&program, principal, &top().join("samples").join(name));
+        (String::from_utf8(run.stdout).expect("text"), run.status.code())
+    };
+    for sample in samples(".record") {
+        for (principal, answer) in sample.independence() {
+            let (line, status) = match answer {
+                Independence::Independent => ("independent\n".to_string(), 0),
+                Independence::NotIndependent => ("not independent\n".to_string(), 1),
+                Independence::Refused { number, place } => {
+                    (format!("refused {number} place {place}\n"), 1)
+                }
+            };
+            let said = of_sample(&sample.name, &principal.to_string());
+            assert_eq!(said, (line, Some(status)), "{} of {principal}", sample.name);
+        }
+    }
+    // a number that no word holds is no principal's
+    for principal in ["65536", "65543", "4294967303", "18446744073709551623"] {
+        let said = of_sample("A.record", principal);
+        assert_eq!(said, ("refused 17 place 0\n".to_string(), Some(1)), "{principal}");
+    }
+}
+
 #[test]
 fn no_verdict() {
     let program = example("check_nothing");
@@ -97,6 +130,11 @@ fn no_verdict() {
     }
     let record = folder.join("A.record");
     assert_no_verdict(check(&program, "records", &record), "another word");
+    assert_no_verdict(check(&program, "independent", &record), "no principal");
+    assert_no_verdict(independent(&program, "7", &folder), "a principal and a folder");
+    for word in ["", "-7", "+7", " 7", "7 ", "7x", "x", "0x7"] {
+        assert_no_verdict(independent(&program, word, &record), &format!("principal '{word}'"));
+    }
     let run = Command::new(&program).arg(&record).output().expect("the example program starts");
     assert_no_verdict(run, "one word only");
 }
@@ -107,6 +145,7 @@ fn null_pointers() {
         "-Wl,--wrap=wethrynda_check_record",
         "-Wl,--wrap=wethrynda_check_exchange",
         "-Wl,--wrap=wethrynda_write_sentences",
+        "-Wl,--wrap=wethrynda_independent_of",
     ];
     let program = compiled("null", "rust/wethrynda/tests/null.c", &wrap);
     let run = Command::new(program).output().expect("null.c's program starts");

@@ -1,6 +1,6 @@
 /*
  * Null pointers to the header's inline functions, and what the one for sentences leaves in the list, the text and the
- * count that are lent to it. It is linked with --wrap for the three proved functions, so each call of one comes to the
+ * count that are lent to it. It is linked with --wrap for the four proved functions, so each call of one comes to the
  * function with __wrap_ here, and __real_ is the proved one. It prints each call that goes wrong, and the exit status
  * is then 1.
  */
@@ -18,6 +18,9 @@
 #define REFUSED_1_PLACE_0 ((uint64_t)1 << 32)
 #define REFUSED_8_PLACE_0 ((uint64_t)8 << 32)
 #define REFUSED_16_PLACE_0 ((uint64_t)16 << 32)
+#define REFUSED_17_PLACE_0 ((uint64_t)17 << 32)
+#define INDEPENDENT ((uint64_t)0)
+#define NOT_INDEPENDENT ((uint64_t)1)
 
 uint64_t __real_wethrynda_check_record(const uint8_t *file, size_t file_length, uint16_t *signers,
                                        size_t signers_length);
@@ -51,6 +54,15 @@ uint64_t __wrap_wethrynda_write_sentences(const uint8_t *file, size_t file_lengt
     }
     return __real_wethrynda_write_sentences(file, file_length, signers, signers_length, text, text_length, written,
                                             written_length);
+}
+
+uint64_t __real_wethrynda_independent_of(const uint8_t *file, size_t file_length, uint16_t principal);
+
+uint64_t __wrap_wethrynda_independent_of(const uint8_t *file, size_t file_length, uint16_t principal) {
+    if (file == NULL) {
+        return NULL_HANDED_ON;
+    }
+    return __real_wethrynda_independent_of(file, file_length, principal);
 }
 
 /* Samples A, with one signer, and B, with none. */
@@ -124,17 +136,35 @@ static int lent_differs(void) {
     return wrong;
 }
 
+/* The inline function on A, whose goal is 7's word, and how its answers are taken apart. */
+static int independence_differs(void) {
+    uint64_t of_7 = wethrynda_independent(A, sizeof A, 7), of_8 = wethrynda_independent(A, sizeof A, 8);
+    uint64_t of_4096 = wethrynda_independent(A, sizeof A, 4096);
+    int wrong = differs("A of 7", of_7, NOT_INDEPENDENT);
+    wrong |= differs("A of 8", of_8, INDEPENDENT);
+    wrong |= differs("A of 4096", of_4096, REFUSED_17_PLACE_0);
+    wrong |= differs("A of 7, is independent", wethrynda_is_independent(of_7), false);
+    wrong |= differs("A of 8, is independent", wethrynda_is_independent(of_8), true);
+    wrong |= differs("A of 4096, is independent", wethrynda_is_independent(of_4096), false);
+    wrong |= differs("A of 7, the number", wethrynda_number(of_7), 0);
+    wrong |= differs("A of 8, the number", wethrynda_number(of_8), 0);
+    wrong |= differs("A of 4096, the number", wethrynda_number(of_4096), 17);
+    wrong |= differs("A of 4096, the place", wethrynda_place(of_4096), 0);
+    return wrong;
+}
+
 int main(void) {
     uint16_t list[1] = {0};
     uint8_t text[BYTES_OF_B] = {0};
     uint64_t written = NO_COUNT;
-    int wrong = count_differs() | lent_differs();
+    int wrong = count_differs() | lent_differs() | independence_differs();
     /* length 0 */
     wrong |= differs("no file", wethrynda_record(NULL, 0, list, 1), REFUSED_1_PLACE_0);
     wrong |= differs("no file, no list", wethrynda_record(NULL, 0, NULL, 0), REFUSED_1_PLACE_0);
     wrong |= differs("B, no list", wethrynda_record(B, sizeof B, NULL, 0), GRANTED_COUNT_0);
     wrong |= differs("A, no list", wethrynda_record(A, sizeof A, NULL, 0), REFUSED_8_PLACE_0);
     wrong |= differs("no exchange file", wethrynda_exchange(NULL, 0), REFUSED_1_PLACE_0);
+    wrong |= differs("no file, a principal", wethrynda_independent(NULL, 0, 4096), REFUSED_1_PLACE_0);
     wrong |= differs("no file, sentences", wethrynda_sentences(NULL, 0, list, 1, text, sizeof text, &written),
                      REFUSED_1_PLACE_0);
     wrong |= differs("nothing, sentences", wethrynda_sentences(NULL, 0, NULL, 0, NULL, 0, NULL), REFUSED_1_PLACE_0);
@@ -151,6 +181,7 @@ int main(void) {
     wrong |= differs("null, 1 byte", wethrynda_record(NULL, 1, list, 1), NULL_HANDED_ON);
     wrong |= differs("null, 1 word", wethrynda_record(A, sizeof A, NULL, 1), NULL_HANDED_ON);
     wrong |= differs("null, 1 byte, exchange", wethrynda_exchange(NULL, 1), NULL_HANDED_ON);
+    wrong |= differs("null, 1 byte, a principal", wethrynda_independent(NULL, 1, 7), NULL_HANDED_ON);
     wrong |= differs("null, 1 byte, sentences", wethrynda_sentences(NULL, 1, list, 1, text, sizeof text, &written),
                      NULL_HANDED_ON);
     wrong |= differs("null, 1 word, sentences", wethrynda_sentences(A, sizeof A, NULL, 1, text, sizeof text, &written),

@@ -7,7 +7,8 @@ use builder::steps::RULES;
 use common::{file_of, top};
 use std::collections::BTreeSet;
 use std::fs;
-use wethrynda::{check_exchange, check_record, Exchange, Verdict, MOST_SIGNERS};
+use wethrynda::{check_exchange, check_record, independent_of};
+use wethrynda::{Exchange, Independence, Verdict, MOST_SIGNERS};
 
 fn page(name: &str) -> String {
     fs::read_to_string(top().join(name)).expect(name)
@@ -27,10 +28,17 @@ fn file(sample: &str) -> Vec<u8> {
     fs::read(top().join("samples").join(sample)).expect(sample)
 }
 
-/// A sample's line, by the proved checker.
+/// A sample's line, by the proved checker; of "PRINCIPAL samples/SAMPLE" whether he can matter.
 fn checked(sample: &str) -> String {
-    let (file, mut signers) = (file(sample), [0; MOST_SIGNERS]);
     let refused = |number, place| format!("refused {number} place {place}");
+    if let Some((principal, sample)) = sample.split_once(" samples/") {
+        return match independent_of(&file(sample), principal.parse().expect(sample)) {
+            Independence::Independent => "independent".to_string(),
+            Independence::NotIndependent => "not independent".to_string(),
+            Independence::Refused { number, place } => refused(number, place),
+        };
+    }
+    let (file, mut signers) = (file(sample), [0; MOST_SIGNERS]);
     if sample.ends_with(".exchange") {
         return match check_exchange(&file) {
             Exchange::Equal => "equal".to_string(),
@@ -66,9 +74,10 @@ fn commands(page: &str) -> Vec<(&str, &str)> {
         if let (Some((kind, sample)), Some(line)) =
             (command.split_once(" samples/"), printed(after))
         {
-            let of = if kind == "sentences" { "record" } else { kind };
+            let asked = command.strip_prefix("independent ");
+            let of = if kind == "sentences" || asked.is_some() { "record" } else { kind };
             assert!(sample.ends_with(&format!(".{of}")), "{command}");
-            found.push((sample, line));
+            found.push((asked.unwrap_or(sample), line));
         }
     }
     found
@@ -81,7 +90,10 @@ fn printed(after: &str) -> Option<&str> {
         return text.split('`').next();
     }
     let row = after.strip_prefix('\n')?.lines().find_map(|row| row.strip_prefix("    "))?;
-    (row == "equal" || row.starts_with("granted ") || row.starts_with("refused ")).then_some(row)
+    let whole = ["equal", "independent", "not independent"];
+    let starts = ["granted ", "refused "];
+    let is_line = whole.contains(&row) || starts.iter().any(|start| row.starts_with(start));
+    is_line.then_some(row)
 }
 
 /// Each "Its line is `LINE`" of a page, with the sample that is named last before it.

@@ -297,7 +297,12 @@ pub fn misreadings() -> Section<Record> {
                 "An order that asks for the word of both, and a paper of each.",
                 record(&foremen, &[f7, f8, if_both_say], f1, &by_both(f8)),
                 "granted 2 7 8",
-            ),
+            )
+            .asked(&[
+                (7, "not independent"),
+                (8, "not independent"),
+                (9, "independent"),
+            ]),
             sample(
                 "one-paper-for-both",
                 "The same order, with p7's paper put in twice. It does not weigh double: the \

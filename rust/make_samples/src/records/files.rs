@@ -45,14 +45,22 @@ pub fn of_document_01() -> Section<Record> {
                  paper serves, and then a truth.",
                 record_a(),
                 "granted 1 7",
-            ),
+            )
+            .asked(&[
+                (7, "not independent"),
+                (8, "independent"),
+                (4095, "independent"),
+                (4096, "refused 17 place 0"),
+                (65535, "refused 17 place 0"),
+            ]),
             sample(
                 "B",
                 "What is true, everybody says. The statement is a standing order and no paper, \
                  so the record has no signer.",
                 record(&t, &[a0], p7, &[SAYS_RIGHT, AFFIRM, INIT + a0]),
                 "granted 0",
-            ),
+            )
+            .asked(&[(7, "not independent"), (8, "independent")]),
             sample(
                 "C",
                 "That p7 says a0 does not make a0 true: says left serves an affirmation by p7, \
@@ -95,7 +103,8 @@ pub fn of_document_01() -> Section<Record> {
                 "There are twelve rules, with the codes 0 to 11.",
                 record(&t, &[a0], a0, &[NO_RULE]),
                 "refused 11 place 0",
-            ),
+            )
+            .asked(&[(7, "independent"), (8, "independent")]),
             sample(
                 "J",
                 "The paper of p7 stands there twice. It is one hypothesis, and p7 is one signer.",
@@ -107,7 +116,8 @@ pub fn of_document_01() -> Section<Record> {
                 "Two entries of the table are the same.",
                 record(&twice, &[0], 0, &[INIT]),
                 "refused 5 place 1",
-            ),
+            )
+            .asked(&[(7, "refused 5 place 1"), (4096, "refused 5 place 1")]),
             sample(
                 "N",
                 "The first entry is p7 says itself. An operand has a lower number than the entry \
@@ -182,7 +192,8 @@ pub fn other_refusals() -> Section<Record> {
                     &[SAYS_RIGHT, SAYS_LEFT + p7, AFFIRM, INIT + a0],
                 ),
                 "refused 7 place 1",
-            ),
+            )
+            .asked(&[(7, "refused 7 place 1"), (4096, "refused 7 place 1")]),
         ],
     }
 }

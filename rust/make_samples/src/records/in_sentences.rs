@@ -94,7 +94,8 @@ pub fn in_sentences() -> Section<Record> {
                  name. `docs/SENTENCES.md` reads them aloud.",
                 every_rule(),
                 "granted 1 7",
-            ),
+            )
+            .asked(&[(7, "not independent"), (8, "independent")]),
             sample(
                 "other-way-round",
                 "The paper of p12 and what p12 is to say are the same thing the other way round. \

@@ -3,6 +3,7 @@
 mod errors;
 mod files;
 mod in_sentences;
+mod independence;
 mod says;
 
 use crate::record::Record;
@@ -25,6 +26,7 @@ pub fn sections() -> Vec<Section<Record>> {
         says::about_says(),
         says::signers(),
         in_sentences::in_sentences(),
+        independence::independence(),
         three_halls::releases(),
     ]
 }

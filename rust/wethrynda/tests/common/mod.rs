@@ -7,6 +7,7 @@ use builder::layout;
 use builder::random::Random;
 use std::fs;
 use std::path::{Path, PathBuf};
+use wethrynda::Independence::{self, Independent, NotIndependent, Refused};
 
 /// Words as bytes.
 pub use builder::layout::bytes as file_of;
@@ -39,6 +40,23 @@ impl Sample {
     pub fn text(&self) -> Option<String> {
         let path = top().join("samples").join(&self.name).with_extension("sentences");
         fs::read_to_string(path).ok().filter(|_| matches!(self.answer, Answer::Granted(_)))
+    }
+
+    /// The lines that are stored beside some records: a principal's number, and whether he can
+    /// matter.
+    pub fn independence(&self) -> Vec<(u16, Independence)> {
+        let path = top().join("samples").join(&self.name).with_extension("independent");
+        let lines = fs::read_to_string(path).unwrap_or_default();
+        let answer = |line: &str| match line.split(' ').collect::<Vec<_>>()[..] {
+            [principal, "independent"] => (principal.parse().expect(line), Independent),
+            [principal, "not", "independent"] => (principal.parse().expect(line), NotIndependent),
+            [principal, "refused", number, "place", place] => {
+                let [number, place] = [number, place].map(|word| word.parse().expect(line));
+                (principal.parse().expect(line), Refused { number: number as u8, place })
+            }
+            _ => panic!("{line}"),
+        };
+        lines.lines().map(answer).collect()
     }
 }
 

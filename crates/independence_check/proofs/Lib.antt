@@ -1,0 +1,5 @@
+-- The laws behind the code.
+pub mod Marks
+pub mod Statements
+pub mod Whole
+pub mod Slices
