@@ -76,7 +76,7 @@ pub fn kinds(given: &Given) -> impl Iterator<Item = Kind> {
     [Some(given.kind), given.to_both.then_some(other)].into_iter().flatten()
 }
 
-/// A file on which the checkers differ.
+/// A file on which the checkers differ, or both break a promise.
 #[derive(Clone, Debug)]
 pub struct Disagreement {
     pub given: Given,
@@ -97,7 +97,8 @@ impl Disagreement {
 impl std::fmt::Display for Disagreement {
     fn fmt(&self, f: &mut std::fmt::Formatter<'_>) -> std::fmt::Result {
         let Disagreement { given: Given { family, file, .. }, call, proved, second } = self;
-        writeln!(f, "the checkers disagree, {call}, family {family}")?;
+        let what = if proved == second { "a promise is broken" } else { "the checkers disagree" };
+        writeln!(f, "{what}, {call}, family {family}")?;
         writeln!(f, "  proved: {proved}\n  second: {second}")?;
         let hex: String = file.iter().map(|byte| format!("{byte:02x}")).collect();
         write!(f, "  file, {} bytes: {hex}", file.len())

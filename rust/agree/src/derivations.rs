@@ -6,6 +6,7 @@ use crate::random_table::RandomTable;
 use builder::random::Random;
 use builder::steps::*;
 use builder::table::Entry::{self, And, Atom, False, Implies, Or, Says};
+use builder::table::Table;
 
 /// "a goal is a truth of one formula or an affirmation of one formula by one principal"; formulas
 /// by number.
@@ -325,5 +326,16 @@ impl<'a> Grower<'a> {
         let number = self.table.number(kind(a, b));
         self.need(number);
         number
+    }
+}
+
+/// The proof from these statements after a left rule that it does not need, if there is one for the
+/// statement that is drawn.
+pub fn longer(table: &Table, random: &mut Random, from: &[u16], proof: Vec<u16>) -> Vec<u16> {
+    let named = random.pick(from);
+    match table.entry(named) {
+        And(..) => [&[AND_LEFT + named], &proof[..]].concat(),
+        Or(..) => [&[OR_LEFT + named], &proof[..], &proof].concat(),
+        _ => proof,
     }
 }

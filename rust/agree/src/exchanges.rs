@@ -1,5 +1,5 @@
 //! Exchange files whose two lists are of equal force, with all their proofs.
-use crate::derivations::{Grower, Judgment, Slip};
+use crate::derivations::{longer, Grower, Judgment, Slip};
 use crate::identity::identity;
 use crate::parts::Parts;
 use crate::random_table::RandomTable;
@@ -189,15 +189,5 @@ impl Lists {
         } else {
             parts
         }
-    }
-}
-
-/// The proof after a left rule that it does not need.
-fn longer(table: &RandomTable, random: &mut Random, from: &[u16], proof: Vec<u16>) -> Vec<u16> {
-    let named = random.pick(from);
-    match table.entry(named) {
-        And(..) => after(&[AND_LEFT + named], &[&proof]),
-        Or(..) => after(&[OR_LEFT + named], &[&proof, &proof]),
-        _ => proof,
     }
 }

@@ -1,6 +1,6 @@
-//! The fixed set of the tests: small exhaustive pieces, files with doubled formulas, a run of
-//! seeded files, lists of papers, larger exhaustive pieces, files with crowded tables, and the
-//! largest files.
+//! The fixed set of the tests: small exhaustive pieces, files with doubled formulas, all small
+//! tables in which 7 says something, a run of seeded files, lists of papers, larger exhaustive
+//! pieces, files with crowded tables, and the largest files.
 use crate::crowded::{crowded, REPEATS, SIZES};
 use crate::given::{given, Given};
 use crate::largest::largest;
@@ -51,6 +51,7 @@ impl Fixed {
             pieces.extend(near(&words, kind));
         }
         pieces.push(Piece { count: 6 * DOUBLED.len() as u64, make: Box::new(doubled_files) });
+        pieces.push(all_sides());
         pieces.push(Piece { count: SEEDED, make: Box::new(|number| given(SEED, number)) });
         pieces.extend(all_short_lists());
         pieces.extend(all_short_lists_in_part());
@@ -300,6 +301,31 @@ fn doubled_files(number: u64) -> Given {
     };
     let parts = Parts::record(&table, vec![0, times], goal, steps);
     Given { to_both: false, ..fixed(Kind::Record, parts.bytes()) }
+}
+
+/// All tables of false, what 7 says of it, and two formulas over those before them, with each goal,
+/// which false proves, and with each statement beside false or none: 7 is heard on either side, or
+/// on both.
+fn all_sides() -> Piece {
+    let over = |count: u16| {
+        let pairs = (0..count).flat_map(|a| (0..count).map(move |b| (a, b)));
+        let of_two = pairs.flat_map(|(a, b)| [Implies(a, b), And(a, b), Or(a, b)]);
+        let of_one = (0..count).flat_map(|a| [Says(7, a), Says(8, a)]);
+        of_two.chain(of_one).collect::<Vec<Entry>>()
+    };
+    let (third, fourth) = (over(2), over(3));
+    let tables = third.len() * fourth.len();
+    let make = move |number: u64| {
+        let (table, rest) = (number as usize / 16, number as u16 % 16);
+        let (third, fourth) = (third[table / fourth.len()], fourth[table % fourth.len()]);
+        let table = [False, Says(7, 0), third, fourth].map(Entry::words);
+        let (goal, statement) = (rest / 4, rest % 4);
+        // false stands for none
+        let statements = if statement == 0 { vec![0] } else { vec![0, statement] };
+        let parts = Parts::record(&table, statements, goal, vec![FALSE_LEFT]);
+        Given { to_both: false, ..fixed(Kind::Record, parts.bytes()) }
+    };
+    Piece { count: 16 * tables as u64, make: Box::new(make) }
 }
 
 /// Each kind of file and size of a table, with each way to repeat.

@@ -62,6 +62,7 @@ fn right(random: &mut Random, kind: Kind) -> Parts {
         Kind::Record if random.one_in(40) => records::needs_twice(random),
         Kind::Record if random.one_in(4) => records::signed(random),
         Kind::Record if random.one_in(4) => records::carried(random),
+        Kind::Record if random.one_in(4) => records::contracted(random),
         Kind::Record => records::small(random, None),
         Kind::Exchange => exchanges::small(random, None),
     }

@@ -1,6 +1,6 @@
 //! Generated files, on which the proved checker (`wethrynda`) and the second checker (`second`)
-//! have to agree: answer, number, place, signers in their order, the text of a proof; and every
-//! word and byte that the proved one was lent is looked at.
+//! have to agree: answer, number, place, signers in their order, the text of a proof, whether a
+//! principal can matter; and every word and byte that the proved one was lent is looked at.
 //!
 //! - `random_table`, `identity`, `parts`: random formulas, their proofs from themselves, a file's
 //!   parts. The package `builder` has what they are made of.
@@ -9,7 +9,8 @@
 //! - `crowded`: tables made against the proved checker's test 5.
 //! - `misses`, `raw`, `noise`: near misses and noise.
 //! - `given`: which file a seed and a number make; `fixed`: the fixed set of the tests.
-//! - `compare`, `texts`, `tally`, `run`: the comparison, that of texts, the counts, the threads.
+//! - `compare`, `texts`, `independence`: the comparison, that of texts, and whether a principal can
+//!   matter; `promise`: what independent promises. `tally`, `run`: the counts, the threads.
 #![forbid(unsafe_code)]
 
 pub mod compare;
@@ -20,10 +21,12 @@ pub mod exchanges;
 pub mod fixed;
 pub mod given;
 pub mod identity;
+pub mod independence;
 pub mod largest;
 pub mod misses;
 pub mod noise;
 pub mod parts;
+pub mod promise;
 pub mod random_table;
 pub mod raw;
 pub mod records;

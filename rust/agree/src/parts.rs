@@ -90,13 +90,21 @@ impl Parts {
     }
 
     fn principals_of(&self, counts: impl Fn(u16) -> bool) -> BTreeSet<u16> {
-        let stated = self.first.iter().filter(|statement| counts(**statement));
-        let entries = stated.filter_map(|&statement| self.table.get(statement as usize));
-        let principal = |&entry: &(u16, u16)| match Entry::of(entry) {
+        let stated = self.first.iter().copied().filter(|&statement| counts(statement));
+        stated.filter_map(|statement| self.speaker(statement)).collect()
+    }
+
+    /// Who says something in the table.
+    pub fn speakers(&self) -> BTreeSet<u16> {
+        (0..self.table.len() as u16).filter_map(|number| self.speaker(number)).collect()
+    }
+
+    /// Who says what a number stands for, if it is of the form K says A.
+    pub fn speaker(&self, number: u16) -> Option<u16> {
+        match Entry::of(*self.table.get(usize::from(number))?) {
             Some(Says(principal, _)) => Some(principal),
             _ => None,
-        };
-        entries.filter_map(principal).collect()
+        }
     }
 
     /// The same file over a table in another order.

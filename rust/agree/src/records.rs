@@ -1,5 +1,5 @@
 //! Records with a right proof, or with one that follows a slip.
-use crate::derivations::{Grower, Judgment, Slip};
+use crate::derivations::{longer, Grower, Judgment, Slip};
 use crate::identity::identity;
 use crate::parts::Parts;
 use crate::random_table::RandomTable;
@@ -96,6 +96,10 @@ fn paper_or_around(table: &mut RandomTable, random: &mut Random, statements: &[u
         random.pick(&stated)
     };
     let other = table.formula(random, 1);
+    itself_or_around(table, random, paper, other)
+}
+
+fn itself_or_around(table: &mut RandomTable, random: &mut Random, paper: u16, other: u16) -> u16 {
     let around = match random.below(8) {
         0 => And(paper, other),
         1 => And(other, paper),
@@ -105,6 +109,40 @@ fn paper_or_around(table: &mut RandomTable, random: &mut Random, statements: &[u
         _ => return paper,
     };
     table.number(around)
+}
+
+/// A small record with a contractor, who says several things, some of them about what he says. His
+/// papers lie among the statements, or formulas around them, which the proof may name; some are no
+/// statements. The rest is made without him, so that mostly he can't matter.
+pub fn contracted(random: &mut Random) -> Parts {
+    let mut table = RandomTable::default();
+    let levels = random.below(4);
+    let goal = table.formula(random, levels);
+    let steps = random.between(1, 12).max(table.identity_steps(goal));
+    let mut grower = Grower::new(random, &mut table, 20);
+    grower.grow(Judgment::Truth(goal), steps, 1);
+    let (mut statements, mut steps) = (grower.statements, grower.steps);
+    let (contractor, others) = (random.between(5, 4095) as u16, table.len());
+    let mut papers = vec![];
+    for _ in 0..random.between(2, 6) {
+        let other = random.below(others) as u16;
+        let said = match random.below(3) {
+            0 if !papers.is_empty() => table.number(Implies(random.pick(&papers), other)),
+            1 if !papers.is_empty() => random.pick(&papers),
+            _ => other,
+        };
+        let paper = table.number(Says(contractor, said));
+        papers.push(paper);
+        if random.below(3) > 0 {
+            statements.push(itself_or_around(&mut table, random, paper, other));
+        }
+    }
+    for _ in 0..random.below(4) {
+        if !statements.is_empty() {
+            steps = longer(&table, random, &statements, steps);
+        }
+    }
+    dressed(random, table, statements, goal, steps)
 }
 
 /// "not not (A or not A)" has no proof without its hypothesis twice.

@@ -3,7 +3,7 @@
 use crate::compare::{compared, Disagreement};
 use crate::given::Given;
 use crate::tally::Tally;
-use crate::texts;
+use crate::{independence, texts};
 use std::sync::atomic::{AtomicU64, Ordering::SeqCst};
 use std::sync::Mutex;
 use std::thread;
@@ -34,12 +34,16 @@ pub fn run(
                     return tally;
                 }
                 let given = make(number);
-                let both = compared(&given)
-                    .and_then(|answers| Ok((texts::compared(&given, &answers)?, answers)));
-                match both {
-                    Ok((texts, answers)) => {
+                let all = compared(&given).and_then(|answers| {
+                    let texts = texts::compared(&given, &answers)?;
+                    let independence = independence::compared(&given, &answers)?;
+                    Ok((answers, texts, independence))
+                });
+                match all {
+                    Ok((answers, texts, independence)) => {
                         tally.count(&given, &answers);
                         tally.texts.add(&texts);
+                        tally.independence.add(&independence);
                     }
                     Err(disagreement) => {
                         end.fetch_min(number, SeqCst);

@@ -1,8 +1,9 @@
 //! How often each refusal, each rule and each grant occurred.
 use crate::compare::Answer;
 use crate::given::{Given, FAMILIES};
+use crate::independence;
 use crate::parts::{Kind, Parts};
-use crate::texts::{Counts, TOO_LONG};
+use crate::texts::{self, TOO_LONG};
 use builder::steps::{code, RULES};
 use std::fmt;
 
@@ -27,7 +28,9 @@ pub struct Tally {
     /// Steps by code in files that were granted or equal.
     pub rules: [u64; 12],
     /// Calls that write sentences.
-    pub texts: Counts,
+    pub texts: texts::Counts,
+    /// Calls that ask about a principal.
+    pub independence: independence::Counts,
 }
 
 impl Tally {
@@ -77,6 +80,7 @@ impl Tally {
         pairs(&mut self.exchanges, &other.exchanges);
         pairs(&mut self.rules, &other.rules);
         self.texts.add(&other.texts);
+        self.independence.add(&other.independence);
     }
 
     /// The grants that have to do with who signs.
@@ -111,6 +115,12 @@ impl Tally {
         // only the fixed set has texts that are too long
         for (what, count) in self.texts.counts().filter(|(what, _)| *what != TOO_LONG) {
             expect(count, format!("sentences, {what}"));
+        }
+        for (what, count) in self.independence.counts() {
+            expect(count, format!("independence, {what}"));
+        }
+        for (what, count) in self.independence.promise.counts() {
+            expect(count, format!("independent and {what}"));
         }
         for (code, name) in RULES.iter().enumerate() {
             expect(
@@ -155,6 +165,14 @@ impl fmt::Display for Tally {
         }
         writeln!(f, "\n{:<28} {:>12}", "sentences", "calls")?;
         for (what, count) in self.texts.counts() {
+            writeln!(f, "{what:<28} {count:>12}")?;
+        }
+        writeln!(f, "\n{:<28} {:>12}", "independence", "calls")?;
+        for (what, count) in self.independence.counts() {
+            writeln!(f, "{what:<28} {count:>12}")?;
+        }
+        writeln!(f, "\n{:<28} {:>12}", "independent and still", "records")?;
+        for (what, count) in self.independence.promise.counts() {
             writeln!(f, "{what:<28} {count:>12}")?;
         }
         writeln!(f, "\n{:<28} {:>12}", "rule, granted and equal", "steps")?;

@@ -3,22 +3,24 @@
 use agree::compare::{kinds, proved, Answer};
 use agree::fixed::{Fixed, SEED, SEEDED};
 use agree::given::{given, Given};
+use agree::independence::{self, principals, Independent};
 use agree::parts::Kind;
 use agree::run::STACK;
-use agree::texts::{by_proved, outcome, rooms, Outcome, Room, Written};
+use agree::texts::{self, outcome, rooms, Outcome, Room, Written};
 use std::panic::{catch_unwind, set_hook, take_hook};
 use std::thread;
 
 /// A refusal's number and place; each copy has a type of its own for them.
 type Refusal = (u8, usize);
 
-/// A checker with a fault: its name, the fault in a sentence, its three calls.
+/// A checker with a fault: its name, the fault in a sentence, its four calls.
 struct Fault {
     name: &'static str,
     what: &'static str,
     record: fn(&[u8], usize) -> Result<Vec<u16>, Refusal>,
     exchange: fn(&[u8]) -> Result<(), Refusal>,
     sentences: fn(&[u8], &mut [u16], &mut [u8]) -> Written,
+    independence: fn(&[u8], u16) -> Independent,
 }
 
 macro_rules! fault {
@@ -36,11 +38,23 @@ macro_rules! fault {
                 $name::sentences(file, list, text)
                     .map_err(|refusal| (refusal.number, refusal.place))
             },
+            independence: |file, principal| {
+                $name::independent_of(file, principal)
+                    .map_err(|refusal| (refusal.number, refusal.place))
+            },
         }
     };
 }
 
 include!(concat!(env!("OUT_DIR"), "/faults/faults.rs"));
+
+/// The calls that a fault is looked for in.
+#[derive(Clone, Copy, PartialEq, Eq)]
+enum Calls {
+    Checks,
+    Sentences,
+    Independence,
+}
 
 impl Fault {
     /// None where it panics.
@@ -53,18 +67,31 @@ impl Fault {
         catch_unwind(answer).ok()
     }
 
-    /// Whether the fault is one of the texts only: the name says so.
-    fn is_of_texts(&self) -> bool {
-        self.name.starts_with("text_")
+    /// A fault of the sentences only, or of the independence only: the name says so.
+    fn calls(&self) -> Calls {
+        match self.name.split_once('_') {
+            Some(("text", _)) => Calls::Sentences,
+            Some(("independent", _)) => Calls::Independence,
+            _ => Calls::Checks,
+        }
     }
 
     /// The right answer and the fault's, in words, where they differ on a file.
     fn shown(&self, given: &Given, right: &Right) -> Option<[String; 2]> {
-        if self.is_of_texts() {
-            return right.texts.iter().find_map(|(room, text)| self.shown_by(given, *room, text));
+        match self.calls() {
+            Calls::Checks => {
+                let wrong = self.answer(&given.file, right.kind, given.room);
+                (wrong != right.answer).then(|| [&right.answer, &wrong].map(in_words))
+            }
+            Calls::Sentences => {
+                right.texts.iter().find_map(|(room, text)| self.shown_by(given, *room, text))
+            }
+            Calls::Independence => right.independence.iter().find_map(|&(principal, answer)| {
+                let right = Some(answer);
+                let wrong = catch_unwind(|| (self.independence)(&given.file, principal)).ok();
+                (wrong != right).then(|| [right, wrong].map(independent_in_words))
+            }),
         }
-        let wrong = self.answer(&given.file, right.kind, given.room);
-        (wrong != right.answer).then(|| [&right.answer, &wrong].map(in_words))
     }
 
     /// The same for the sentences where so much is lent.
@@ -85,20 +112,30 @@ impl Fault {
     }
 }
 
-/// What the proved checker says of a file: as one of a kind, and of a record's sentences.
+/// What the proved checker says of a file: as one of a kind, of a record's sentences, and of
+/// principals.
 struct Right {
     kind: Kind,
     answer: Option<Answer>,
     texts: Vec<(Room, Outcome)>,
+    independence: Vec<(u16, Independent)>,
 }
 
 impl Right {
-    fn of(given: &Given, kind: Kind, with_texts: bool) -> Right {
+    /// With what is asked for.
+    fn of(given: &Given, kind: Kind, is_asked: impl Fn(Calls) -> bool) -> Right {
         let answer = proved(&given.file, kind, given.room);
-        let with_texts = with_texts && kind == Kind::Record;
-        let rooms = if with_texts { rooms(given, &answer) } else { vec![] };
-        let text = |room| (room, outcome(&given.file, room, &by_proved));
-        Right { kind, texts: rooms.into_iter().map(text).collect(), answer: Some(answer) }
+        let is_asked = |calls| kind == Kind::Record && is_asked(calls);
+        let rooms = if is_asked(Calls::Sentences) { rooms(given, &answer) } else { vec![] };
+        let asked = if is_asked(Calls::Independence) { principals(given, &answer) } else { vec![] };
+        let text = |room| (room, outcome(&given.file, room, &texts::by_proved));
+        let independent = |k| (k, independence::by_proved(&given.file, k));
+        Right {
+            kind,
+            answer: Some(answer),
+            texts: rooms.into_iter().map(text).collect(),
+            independence: asked.into_iter().map(independent).collect(),
+        }
     }
 }
 
@@ -112,6 +149,15 @@ fn in_words(answer: &Option<Answer>) -> String {
         Some(Answer::Equal) => "equal".to_string(),
         Some(Answer::Refused { number, place }) => format!("{number} place {place}"),
         Some(Answer::Broken(what)) => what.clone(),
+    }
+}
+
+fn independent_in_words(answer: Option<Independent>) -> String {
+    match answer {
+        None => "panic".to_string(),
+        Some(Ok(true)) => "independent".to_string(),
+        Some(Ok(false)) => "not independent".to_string(),
+        Some(Err((number, place))) => format!("{number} place {place}"),
     }
 }
 
@@ -142,8 +188,8 @@ fn find_all(
         }
         let given = make(number);
         for kind in kinds(&given) {
-            let right =
-                Right::of(&given, kind, left.iter().any(|&fault| FAULTS[fault].is_of_texts()));
+            let is_asked = |calls| left.iter().any(|&fault| FAULTS[fault].calls() == calls);
+            let right = Right::of(&given, kind, is_asked);
             left.retain(|&fault| {
                 let shown = FAULTS[fault].shown(&given, &right);
                 found[fault] = shown.map(|answers| Found { number, family: given.family, answers });
@@ -158,7 +204,7 @@ fn find_all(
 /// but for one fault.
 #[test]
 fn the_fixed_set_finds_each_fault() {
-    assert_eq!(FAULTS.len(), 124);
+    assert_eq!(FAULTS.len(), 149);
     let fixed = Fixed::new();
     // a fault that is found by a panic is an error below; the message would only be in the way
     let hook = take_hook();

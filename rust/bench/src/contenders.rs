@@ -5,7 +5,7 @@ use super::measure::Contender;
 use builder::texts::MOST_TEXT;
 use std::fmt::Debug;
 use std::hint::black_box;
-use wethrynda::{Exchange, Sentences, Verdict, MOST_SIGNERS};
+use wethrynda::{Exchange, Independence, Sentences, Verdict, MOST_SIGNERS};
 
 /// The list that is lent is not cleared between calls.
 pub fn proved(file: &File) -> Contender<'_> {
@@ -48,6 +48,19 @@ pub fn plain_text(file: &File) -> Contender<'_> {
 pub fn second_text(file: &File) -> Contender<'_> {
     let (mut lent, mut text) = ([0; MOST_SIGNERS], vec![0; MOST_TEXT]);
     repeat(move || second::sentences(black_box(&file.bytes), &mut lent, &mut text))
+}
+
+/// Whether a principal can matter to a record.
+pub fn proved_independence(file: &File, principal: u16) -> Contender<'_> {
+    repeat(move || wethrynda::independent_of(black_box(&file.bytes), black_box(principal)))
+}
+
+pub fn plain_independence(file: &File, principal: u16) -> Contender<'_> {
+    repeat(move || plain::independent_of(black_box(&file.bytes), black_box(principal)))
+}
+
+pub fn second_independence(file: &File, principal: u16) -> Contender<'_> {
+    repeat(move || second::independent_of(black_box(&file.bytes), black_box(principal)))
 }
 
 /// One pass that sums so many bytes: what reading the text costs.
@@ -138,4 +151,18 @@ pub fn assert_texts(name: &str, file: &File) -> Option<usize> {
     assert_same(name, [proved, plain, second], second.or(Err((16, 0))));
     assert!(by_proved == by_second && by_plain == by_second, "{name}, what is lent");
     second.ok().map(|(_, bytes)| bytes)
+}
+
+/// All three find the record independent of the principal.
+pub fn assert_independent(name: &str, file: &File, principal: u16) {
+    let proved = match wethrynda::independent_of(&file.bytes, principal) {
+        Independence::Independent => Ok(true),
+        Independence::NotIndependent => Ok(false),
+        Independence::Refused { number, place } => Err((number, place)),
+    };
+    let plain = plain::independent_of(&file.bytes, principal);
+    let plain = plain.map_err(|refusal| (refusal.number, refusal.place));
+    let second = second::independent_of(&file.bytes, principal);
+    let second = second.map_err(|refusal| (refusal.number, refusal.place));
+    assert_same(name, [proved, plain, second], Ok(true));
 }

@@ -4,12 +4,13 @@
 #![forbid(unsafe_code)]
 mod contenders;
 mod files;
+mod independence;
 mod measure;
 mod rows;
 mod texts;
 
 use contenders::{assert_answers, byte_sum, plain, proved, second};
-use measure::measure;
+use measure::{measure, Contender};
 use rows::{rows, Row};
 use std::io::{stderr, IsTerminal};
 use std::time::Duration;
@@ -34,12 +35,22 @@ fn whole(number: usize) -> String {
     parts.join(",")
 }
 
+/// A line of a table: the bytes, the time of the proved checker, and what it is to those of the
+/// plain one, the second one and the sum of the bytes, in this order.
+fn line(name: &str, bytes: usize, contenders: Vec<Contender>) -> String {
+    let times = measure(contenders, ROW);
+    let mut ratios = [times[0] / times[1], times[2] / times[0], times[0] / times[3]].map(figures);
+    if bytes == 0 {
+        ratios[2] = "-".to_string();
+    }
+    let [bytes, time] = [bytes, times[0] as usize].map(whole);
+    format!("| {name} | {bytes} | {time} | {} |", ratios.join(" | "))
+}
+
 fn speed(row: &Row) -> String {
     let file = &row.full;
-    let times = measure(vec![proved(file), plain(file), second(file), byte_sum(file)], ROW);
-    let ratios = [times[0] / times[1], times[2] / times[0], times[0] / times[3]].map(figures);
-    let [bytes, time] = [file.bytes.len(), times[0] as usize].map(whole);
-    format!("| {} | {bytes} | {time} | {} |", row.name, ratios.join(" | "))
+    let contenders = vec![proved(file), plain(file), second(file), byte_sum(file)];
+    line(row.name, file.bytes.len(), contenders)
 }
 
 fn growth(row: &Row) -> Option<String> {
@@ -66,7 +77,7 @@ fn print_lines<T>(rows: &[T], line: impl Fn(&T) -> Option<String>) {
 }
 
 fn main() {
-    let (rows, texts) = (rows(), texts::texts());
+    let (rows, texts, questions) = (rows(), texts::texts(), independence::questions());
     for row in &rows {
         let files = std::iter::once(&row.full).chain(&row.half);
         files.for_each(|file| assert_answers(row.name, file));
@@ -86,4 +97,10 @@ fn main() {
     );
     println!("|---|---:|---:|---:|---:|---:|");
     print_lines(&texts, |text| Some(texts::line(text)));
+    println!("\nWhether a principal can matter to a record; the answer is independent:\n");
+    println!(
+        "| record | bytes | proved, ns | proved / plain | second / proved | proved / sum of bytes |"
+    );
+    println!("|---|---:|---:|---:|---:|---:|");
+    print_lines(&questions, |question| Some(independence::line(question)));
 }

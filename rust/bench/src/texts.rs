@@ -2,8 +2,6 @@
 
 use super::contenders::{assert_texts, byte_sum_of, plain_text, proved_text, second_text};
 use super::files::{self, File};
-use super::measure::measure;
-use super::{figures, whole, ROW};
 
 /// A record, and the length of its proof's text; none where it is too long to be lent.
 pub struct Text {
@@ -35,11 +33,5 @@ pub fn line(text: &Text) -> String {
     let length = text.length.unwrap_or(0);
     let contenders =
         vec![proved_text(file), plain_text(file), second_text(file), byte_sum_of(length)];
-    let times = measure(contenders, ROW);
-    let mut ratios = [times[0] / times[1], times[2] / times[0], times[0] / times[3]].map(figures);
-    if length == 0 {
-        ratios[2] = "-".to_string();
-    }
-    let [bytes, time] = [length, times[0] as usize].map(whole);
-    format!("| {} | {bytes} | {time} | {} |", text.name, ratios.join(" | "))
+    super::line(text.name, length, contenders)
 }

@@ -1,9 +1,10 @@
 //! A plain fast checker of release records and exchange files, as one writes it for speed in safe
 //! Rust: words are read where they stand, a hypothesis is a mark at its formula's number, and
 //! little more memory is cleared than the file's sizes ask for. It makes all of 01's tests in 01's
-//! order, but for 8, which stands after 15, and then 16 (02), and keeps nothing between calls. The
-//! proved checker is measured against it.
+//! order, but for 8, which stands after 15, and then 16 (02), or 17 after 7 (02), and keeps nothing
+//! between calls. The proved checker is measured against it.
 #![forbid(unsafe_code)]
+mod independence;
 mod limits;
 mod sentences;
 mod signers;
@@ -11,7 +12,8 @@ mod table;
 mod walk;
 mod words;
 
-use limits::{MOST_FORMULAS, MOST_STATEMENTS, MOST_STEPS};
+use independence::is_independent;
+use limits::{MOST_FORMULAS, MOST_STATEMENTS, MOST_STEPS, PRINCIPALS};
 use sentences::Sentences;
 use signers::Papers;
 use walk::{with_marks, Follow, Nothing, Walk};
@@ -56,38 +58,69 @@ pub fn sentences(
     Ok((count, sentences.written))
 }
 
+/// Whether a record's goal is independent of a principal (02). Its steps are not looked at.
+pub fn independent_of(file: &[u8], principal: u16) -> Result<bool, Refusal> {
+    let record = Record::read(file)?;
+    let formulas = record.heads.len();
+    if let Some(position) = record.statements.iter().position(|n| n as usize >= formulas) {
+        return refuse(7, position);
+    }
+    if principal as usize >= PRINCIPALS {
+        return refuse(17, 0);
+    }
+    Ok(is_independent(&record, principal))
+}
+
+/// The parts of a record, where they stand.
+struct Record<'a> {
+    heads: Words<'a>,
+    seconds: Words<'a>,
+    statements: Words<'a>,
+    steps: Words<'a>,
+    goal: u16,
+}
+
+impl<'a> Record<'a> {
+    /// Tests 1 to 6.
+    #[inline(always)]
+    fn read(file: &'a [u8]) -> Result<Self, Refusal> {
+        let ([formulas, count, steps, goal], rest) = sizes(file)?;
+        if formulas == 0
+            || formulas > MOST_FORMULAS
+            || count > MOST_STATEMENTS
+            || steps == 0
+            || steps > MOST_STEPS
+        {
+            return refuse(2, 0);
+        }
+        if file.len() != 2 * (4 + 2 * formulas + count + steps) {
+            return refuse(3, 0);
+        }
+        let (heads, rest) = rest.split_at(formulas);
+        let (seconds, rest) = rest.split_at(formulas);
+        let (statements, steps) = rest.split_at(count);
+        table::check(heads, seconds)?;
+        if goal >= formulas {
+            return refuse(6, 0);
+        }
+        Ok(Record { heads, seconds, statements, steps, goal: goal as u16 })
+    }
+}
+
 fn check_followed(
     file: &[u8],
     signers: &mut [u16],
     follow: &mut impl Follow,
 ) -> Result<usize, Refusal> {
-    let ([formulas, count, steps, goal], rest) = sizes(file)?;
-    if formulas == 0
-        || formulas > MOST_FORMULAS
-        || count > MOST_STATEMENTS
-        || steps == 0
-        || steps > MOST_STEPS
-    {
-        return refuse(2, 0);
-    }
-    if file.len() != 2 * (4 + 2 * formulas + count + steps) {
-        return refuse(3, 0);
-    }
-    let (heads, rest) = rest.split_at(formulas);
-    let (seconds, rest) = rest.split_at(formulas);
-    let (statements, steps) = rest.split_at(count);
-    table::check(heads, seconds)?;
-    if goal >= formulas {
-        return refuse(6, 0);
-    }
-    with_marks(formulas, |[held, opened]| {
+    let Record { heads, seconds, statements, steps, goal } = Record::read(file)?;
+    with_marks(heads.len(), |[held, opened]| {
         hold_all(held, statements)?;
         let mut walk = Walk::new(heads, seconds, steps, held, opened);
-        walk.prove(goal as u16, follow)?;
+        walk.prove(goal, follow)?;
         walk.end()?;
         let papers = Papers { heads, statements, opened };
         // a list as long as the statements has room for every signer
-        if signers.len() < count && signers.len() < papers.signers(&mut []) {
+        if signers.len() < statements.len() && signers.len() < papers.signers(&mut []) {
             return refuse(8, 0);
         }
         follow.end(heads, seconds)?;

@@ -19,24 +19,10 @@ pub fn check_record_and(
     room: usize,
     last: impl FnOnce(&[Done]) -> Result<(), Refusal>,
 ) -> Result<Vec<u16>, Refusal> {
-    // Test 1.
-    let [f, s, n, goal] = sizes(file)?;
-    let [f, s, n] = [f, s, n].map(usize::from);
-    // Test 2.
-    let in_range =
-        FORMULAS.contains(&f) && STATEMENTS.contains(&s) && (1..=MOST_STEPS).contains(&n);
-    refuse_if(!in_range, 2, 0)?;
-    // Test 3.
-    let [heads, seconds, statements, words] = lists(file, [f, f, s, n])?;
-    // Tests 4 and 5.
-    let table = Table::read(&heads, &seconds)?;
-    // Test 6.
-    let goal = table.get(goal).ok_or(Refusal { number: 6, place: 0 })?;
-    // Test 7.
-    let statements = table.statements(&statements)?;
+    let Record { table, statements, goal, words } = Record::read(file)?;
     // Tests 9 to 15.
     let mut steps = Steps::new(&table, &words);
-    let end = steps.proof(&Hypotheses::of(&statements), goal, 0)?;
+    let end = steps.proof(&Hypotheses::of(&statements), &goal, 0)?;
     steps.end(end)?;
     // Test 8: "tested after 15 and before 16" (02).
     let signers = signers_of(&statements, &steps.opened());
@@ -44,6 +30,35 @@ pub fn check_record_and(
     last(&steps.done)?;
     // "Signers shall stand in rising principal number." (02) A set hands them out so.
     Ok(signers.into_iter().collect())
+}
+
+/// A record that passed tests 1 to 7, which look at no step word.
+pub struct Record {
+    pub table: Table,
+    pub statements: Vec<Tree>,
+    pub goal: Tree,
+    pub words: Vec<u16>,
+}
+
+impl Record {
+    pub fn read(file: &[u8]) -> Result<Record, Refusal> {
+        // Test 1.
+        let [f, s, n, goal] = sizes(file)?;
+        let [f, s, n] = [f, s, n].map(usize::from);
+        // Test 2.
+        let in_range =
+            FORMULAS.contains(&f) && STATEMENTS.contains(&s) && (1..=MOST_STEPS).contains(&n);
+        refuse_if(!in_range, 2, 0)?;
+        // Test 3.
+        let [heads, seconds, statements, words] = lists(file, [f, f, s, n])?;
+        // Tests 4 and 5.
+        let table = Table::read(&heads, &seconds)?;
+        // Test 6.
+        let goal = table.get(goal).cloned().ok_or(Refusal { number: 6, place: 0 })?;
+        // Test 7.
+        let statements = table.statements(&statements)?;
+        Ok(Record { table, statements, goal, words })
+    }
 }
 
 /// "A signer is now a principal K with a statement K says A that some says-left step names" (02),

@@ -3,7 +3,7 @@
 mod common;
 
 use common::*;
-use second::{check_exchange, check_record, Refusal};
+use second::{check_exchange, check_record, independent_of, Refusal};
 
 fn record(table: Table, statements: &[u16], goal: u16, steps: &[u16]) -> Result<Vec<u16>, Refusal> {
     check_record(&record_file(table, statements, goal, steps), 256)
@@ -418,8 +418,10 @@ fn any_bytes() {
         }
         let _ = check_record(&file, random() % 2);
         let _ = check_exchange(&file);
+        let _ = independent_of(&file, 7);
         let noise: Vec<u8> = (0..random() % 40).map(|_| random() as u8 % 4).collect();
         let _ = check_record(&noise, 0);
         let _ = check_exchange(&noise);
+        let _ = independent_of(&noise, 7);
     }
 }
