@@ -14,11 +14,8 @@ use Rattle.record.specs.declared.verdict.RecordVerdict.{RecordVerdict}
 use Rattle.record.specs.declared.verdict.RecordVerdict.the-variants as Record
 use Rattle.record.specs.Figure1.{recordAnswer}
 use Rattle.record.specs.ListAfter.{listAfter}
-use Rattle.exchange.specs.declared.verdict.ExchangeVerdict.{ExchangeVerdict}
-use Rattle.exchange.specs.Figure1.{exchangeAnswer}
 use Rattle.line.specs.RefusedLine.{refusedLine}
 use Rattle.line.specs.RecordLine.{recordLine}
-use Rattle.line.specs.ExchangeLine.{exchangeLine}
 use Rattle.line.specs.Figure1.{printedLine}
 use Rattle.line.proofs.Line.{Owed, owed-all}
 use Rattle.line.proofs.Figure1.{line-of-call}
@@ -39,12 +36,6 @@ pub printed :
 printed file before {v} {list} {count} {after} answered left =
     subst (λ (line : List ℕ). Owed before line count after)
     (line-of-call file lent list v (length-replicate {A = ℕ} mostStatements 0) answered left)
-
--- The same for an exchange file, which has no list.
-pub exchange-printed :
-    (file before : List ℕ) {v : ExchangeVerdict} {count : ℕ} {after : List ℕ}
-    → v ≡ exchangeAnswer file → Owed before (exchangeLine v) count after → Owed before (exchangeLine (exchangeAnswer file)) count after
-exchange-printed file before {count} {after} answered = subst (λ (w : ExchangeVerdict). Owed before (exchangeLine w) count after) answered
 
 -- ---- sentences
 

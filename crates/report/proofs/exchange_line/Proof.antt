@@ -1,6 +1,8 @@
 -- `report::exchange_line` meets its contract: the line is that of the check's answer. Assumes nothing.
+use mathlib.Core.Path.{sym, ap}
 use borrow.Author.Needs.{needs}
-use Rattle.report.proofs.Printed.{exchange-printed}
+use Rattle.line.specs.ExchangeLine.{exchangeLine}
+use Rattle.line.proofs.Line.{owed-same}
 use Rattle.report.proofs.exchange_line.Statement.{statement}
 use Rattle.report.proofs.exchange_line.Tie as tie
 
@@ -9,7 +11,7 @@ returns c =
     let w = c .before .before in
     let v = w .before .before in
     let a = v .before .before .before .args in
-    exchange-printed (a .file .now) (a .line .now) (v .check-exchange .ensures) (w .write-exchange-line .ensures)
+    owed-same (a .line .now) (ap exchangeLine (sym (v .check-exchange .ensures))) (w .write-exchange-line .ensures)
 
 pub exchange-line-spec : {M : Type 1} → statement M
 exchange-line-spec =

@@ -11,7 +11,8 @@ returns c =
     let w = c .before .before in
     let v = w .before .before in
     let a = v .before .before .before .args in
-    owed-same (a .line .now) (ap independenceLine (sym (v .independent-of .ensures))) (w .write-independence-line .ensures)
+    owed-same (a .line .now) (ap independenceLine (sym (v .independent-of .ensures)))
+    (w .write-independence-line .ensures)
 
 pub independence-line-spec : {M : Type 1} → statement M
 independence-line-spec =

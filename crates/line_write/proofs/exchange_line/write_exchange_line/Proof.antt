@@ -13,14 +13,16 @@ unfolding ascii exchangeLine
 returns c =
     let w = c .before .before in
     let v = w .before .before .before in
-    owed-same (v .before .before .before .args .line .now) (ap exchangeLine (v .enum-told .given .1)) (w .write-whole .ensures)
+    owed-same (v .before .before .before .args .line .now) (ap exchangeLine (v .enum-told .given .1))
+    (w .write-whole .ensures)
 
 returns-2 : tie.Need-returns-2
 unfolding exchangeLine
 returns-2 c =
     let w = c .before .before in
     let v = w .before .before .before in
-    owed-same (v .before .before .before .args .line .now) (ap exchangeLine (v .verdict .given .1)) (w .write-refused .ensures)
+    owed-same (v .before .before .before .args .line .now) (ap exchangeLine (v .verdict .given .1))
+    (w .write-refused .ensures)
 
 pub write-exchange-line-spec : {M : Type 1} → statement M
 write-exchange-line-spec =

@@ -20,7 +20,8 @@ returns-2 : tie.Need-returns-2
 returns-2 c =
     let f = c .before .before in
     let a = f .before .before .before .before .before .args in
-    owed-all (a .line .now) refl (le-leb (length (a .text .now)) (length (a .line .now)) (omega arith)) (f .fill .ensures)
+    owed-all (a .line .now) refl (le-leb (length (a .text .now)) (length (a .line .now)) (omega arith))
+    (f .fill .ensures)
 
 pub write-whole-spec : {M : Type 1} → statement M
 write-whole-spec = tie.close (tie.spec returns (λ c κs. search needs) (λ c. search needs) returns-2)
