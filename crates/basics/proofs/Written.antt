@@ -80,14 +80,24 @@ written-joined old xs ys zero l = rw (zero-add (length xs)) (written-append old 
 written-joined [] xs ys (suc p) l = absurd (omega arith)
 written-joined (o ∷ old) xs ys (suc p) l = rw (suc-add p (length xs)) (ap (λ (r : List ℕ). o ∷ r) (written-joined old xs ys p (omega arith)))
 
--- A part of what is written, where it ends before the new does, is that part of the new.
-pub part-written : (old new : List ℕ) (from count : ℕ) → from + count ≤ length new → length new ≤ length old
+-- The first words of what is written, where the new has so many and there is room for them, are those of the new,
+front-written : (old new : List ℕ) (count : ℕ) → count ≤ length new → count ≤ length old
+    → take count (written old new) ≡ take count new
+unfolding written
+front-written old new zero l m = refl
+front-written [] new (suc count) l m = absurd (omega arith)
+front-written (o ∷ old) [] (suc count) l m = absurd (omega arith)
+front-written (o ∷ old) (n ∷ new) (suc count) l m =
+    ap (λ (r : List ℕ). n ∷ r) (front-written old new count (le-of-suc-le-suc l) (le-of-suc-le-suc m))
+
+-- and so is every part that ends there.
+pub part-written : (old new : List ℕ) (from count : ℕ) → from + count ≤ length new → from + count ≤ length old
     → take count (drop from (written old new)) ≡ take count (drop from new)
-part-written old new from count l m =
-    let rest : List ℕ = drop (length new) old in
-    ap (λ (r : List ℕ). take count (drop from r)) (written-fits old new m)
-    ∙ ap (λ (r : List ℕ). take count r) (drop-append-le from new rest (omega arith))
-    ∙ take-append-le count (drop from new) rest (omega (arith, length-drop from new))
+unfolding written
+part-written old new zero count l m = front-written old new count (omega arith) (omega arith)
+part-written [] new (suc from) count l m = absurd (omega arith)
+part-written (o ∷ old) [] (suc from) count l m = absurd (omega arith)
+part-written (o ∷ old) (n ∷ new) (suc from) count l m = part-written old new from count (omega arith) (omega arith)
 
 -- From a place on, too, nothing becomes longer or shorter;
 pub written-at-length : (old : List ℕ) (p : ℕ) (new : List ℕ) → length (writtenAt old p new) ≡ length old

@@ -45,8 +45,9 @@ slices file s old {F = F} {S1} {S2} {N} room read f g h k =
       heads-slice = at 0 4 (4 + F) refl (omega arith);
       seconds-slice = at 1 (4 + F) (4 + F + F) (omega arith) (omega arith);
       lists-slice =
-          slice file old read has-room (4 + F + F) (4 + F + F + S1 + S2) first-from (firstCount file + secondCount file) (omega arith) (omega arith)
-          (omega (arith, part-within exchangeLayout file fits 3))
+          slice file old read (4 + F + F) (4 + F + F + S1 + S2) first-from (firstCount file + secondCount file)
+          (omega arith) (omega arith) (omega (arith, part-within exchangeLayout file fits 3))
+          (omega (arith, has-room, part-within exchangeLayout file fits 3))
           ∙ part-joined file first-from (firstCount file) (secondCount file);
       first-slice = at 2 (4 + F + F) (4 + F + F + S1) (omega arith) (omega arith);
       second-slice = at 3 (4 + F + F + S1) (4 + F + F + S1 + S2) (omega arith) (omega arith);

@@ -91,7 +91,9 @@ module _ (layout : Layout) (file : List ℕ) where
 
       pub slice-part : (i from to : ℕ) → from ≡ begins layout file i → to ≡ begins layout file i + getD (lengths layout file) i 0
           → take (to - from) (drop from words) ≡ partOf layout file i
-      slice-part i from to e f = slice file old read has-room from to (begins layout file i) (getD (lengths layout file) i 0) e f (part-within i)
+      slice-part i from to e f =
+          slice file old read from to (begins layout file i) (getD (lengths layout file) i 0) e f (part-within i)
+          (omega (arith, has-room, part-within i))
 
       pub slice-within : (i : ℕ) → begins layout file i + getD (lengths layout file) i 0 ≤ length words
       slice-within i = rw read (omega (arith, written-length old (fileWords file), has-room, part-within i))

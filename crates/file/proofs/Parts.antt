@@ -24,11 +24,11 @@ module _ (file : List ℕ) where
   part-joined from m n =
       take-add m n (drop from (fileWords file)) ∙ ap (λ (r : List ℕ). part file from m ++ take n r) (drop-drop m from (fileWords file))
 
--- The code reads the words into a list that has room for them. What it takes from one place to another is that part of
--- the file.
-module _ (file old : List ℕ) {words : List ℕ} (read : words ≡ written old (fileWords file)) (room : length (fileWords file) ≤ length old) where
+-- The code reads the words into a list. What it takes from one place to another is that part of the file, where the
+-- file has so many words and the list has room for them.
+module _ (file old : List ℕ) {words : List ℕ} (read : words ≡ written old (fileWords file)) where
   pub slice : (from to at count : ℕ) → from ≡ at → to ≡ at + count → at + count ≤ length (fileWords file)
-      → take (to - from) (drop from words) ≡ part file at count
-  slice from to at count e f l =
+      → at + count ≤ length old → take (to - from) (drop from words) ≡ part file at count
+  slice from to at count e f l room =
       let many : to - from ≡ count = omega arith in
       (λ i. take (many i) (drop (e i) (read i))) ∙ part-written old (fileWords file) at count l room

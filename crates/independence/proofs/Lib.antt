@@ -1,6 +1,5 @@
 -- The theorems whose statements are in specs/, and the lemmas behind them.
 pub mod SameProofs
-pub mod ByLines
 pub mod Test
 pub mod Answer
 pub mod StepsUnread

@@ -1,6 +1,7 @@
--- Each derivation of an independent goal is one from every list that has the others' statements, step by step
--- (specs/SameProofs.antt): by induction on the derivation. No premise has a goal with a says-formula of K on the proving
--- side, so a says left of his would serve nobody; and no formula that a premise adds has one. Assumes nothing.
+-- Each derivation of an independent goal is one from every list that has the others' statements, step by step, and
+-- opens nothing that K says (specs/SameProofs.antt): by induction on the derivation. No premise has a goal with a
+-- says-formula of K on the proving side, so a says left of his would serve nobody; and no formula that a premise adds
+-- has one. Assumes nothing.
 use Prim.Native.Nat.{ℕ, suc}
 use native.Mathlib.Decide.{ℕ-discrete}
 use mathlib.Core.Path.{_≡_, refl, sym, subst, ap, ap₂}
@@ -67,128 +68,97 @@ module _ (R : Relation) (K : Principal) where
     derivation : Derivation R Δ γ
     same-lines : lines derivation ≡ lines D
     same-depths : (d : ℕ) → stepDepths d derivation ≡ stepDepths d D
+    -- no says left names what K says
+    unopened : (X : Proposition) → ¬ ((K says X) ∈ saysLeftNames D)
 
   by-step : {Γ Δ : List Proposition} {γ : Judgment} (D : Derivation R Γ γ) (E : Derivation R Δ γ) → lines E ≡ lines D
-      → ((d : ℕ) → stepDepths d E ≡ stepDepths d D) → Moved Δ D
-  by-step D E same deep = record { derivation = E; same-lines = same; same-depths = deep }
+      → ((d : ℕ) → stepDepths d E ≡ stepDepths d D) → ((X : Proposition) → ¬ ((K says X) ∈ saysLeftNames D)) → Moved Δ D
+  by-step D E same deep shut = record { derivation = E; same-lines = same; same-depths = deep; unopened = shut }
+
+  -- The says lefts of two premises name what those of either name.
+  neither : {A : Proposition} (xs ys : List Proposition) → ¬ (A ∈ xs) → ¬ (A ∈ ys) → ¬ (A ∈ xs ++ ys)
+  neither xs ys in-first in-second m = ⊎-elim in-first in-second (List·Memᴰ·append-cases xs m)
+
+  same-speaker : {L : Principal} {X A : Proposition} → (K says X) ≡ (L says A) → K ≡ L
+  same-speaker e = cc
 
   moved : {Γ Δ : List Proposition} {γ : Judgment} (D : Derivation R Γ γ) → Clear γ → AllKept Γ Δ → Moved Δ D
   moved (init {a = a} m) c k =
-      ⊎-elim (λ s. absurd s) (λ (_, n). by-step (init m) (init n) refl (λ d. refl)) (k (atom a) m)
+      ⊎-elim (λ s. absurd s)
+      (λ (_, n). by-step (init m) (init n) refl (λ d. refl) (λ X. List·Memᴰ·not-nil)) (k (atom a) m)
   moved (affirm D) c k =
       let r = moved D (c .1) k in
       by-step (affirm D) (affirm (r .derivation)) (rw (r .same-lines)) (λ d. ap (_∷_ d) (r .same-depths (suc d)))
+      (r .unopened)
   moved (implies-right {A = A} D) c k =
       let r = moved D (λ L X o s. c L X o (S.right-of-implies s))
       (kept-more A (λ L X o s. c L X o (S.left-of-implies s)) k) in
       by-step (implies-right D) (implies-right (r .derivation)) (rw (r .same-lines))
-      (λ d. ap (_∷_ d) (r .same-depths (suc d)))
+      (λ d. ap (_∷_ d) (r .same-depths (suc d))) (r .unopened)
   moved (implies-left {A = A} {B = B} m D E) c k =
       ⊎-elim (λ s. absurd s)
       (λ (clear, n).
       let r = moved D (λ L X o s. clear L X o (S.left-of-implies s)) k in
       let q = moved E c (kept-more B (λ L X o s. clear L X o (S.right-of-implies s)) k) in
       by-step (implies-left m D E) (implies-left n (r .derivation) (q .derivation)) (rw (r .same-lines, q .same-lines))
-      (λ d. ap (_∷_ d) (ap₂ _++_ (r .same-depths (suc d)) (q .same-depths (suc d)))))
+      (λ d. ap (_∷_ d) (ap₂ _++_ (r .same-depths (suc d)) (q .same-depths (suc d))))
+      (λ X. neither (saysLeftNames D) (saysLeftNames E) (r .unopened X) (q .unopened X)))
       (k (A implies B) m)
   moved (false-left m) c k =
-      ⊎-elim (λ s. absurd s) (λ (_, n). by-step (false-left m) (false-left n) refl (λ d. refl)) (k false m)
+      ⊎-elim (λ s. absurd s)
+      (λ (_, n). by-step (false-left m) (false-left n) refl (λ d. refl) (λ X. List·Memᴰ·not-nil)) (k false m)
   moved (and-right D E) c k =
       let r = moved D (λ L X o s. c L X o (S.first-of-and s)) k in
       let q = moved E (λ L X o s. c L X o (S.second-of-and s)) k in
       by-step (and-right D E) (and-right (r .derivation) (q .derivation)) (rw (r .same-lines, q .same-lines))
       (λ d. ap (_∷_ d) (ap₂ _++_ (r .same-depths (suc d)) (q .same-depths (suc d))))
+      (λ X. neither (saysLeftNames D) (saysLeftNames E) (r .unopened X) (q .unopened X))
   moved (and-left {A = A} {B = B} m D) c k =
       ⊎-elim (λ s. absurd s)
       (λ (clear, n).
       let r = moved D c (kept-more A (λ L X o s. clear L X o (S.first-of-and s))
       (kept-more B (λ L X o s. clear L X o (S.second-of-and s)) k)) in
       by-step (and-left m D) (and-left n (r .derivation)) (rw (r .same-lines))
-      (λ d. ap (_∷_ d) (r .same-depths (suc d))))
+      (λ d. ap (_∷_ d) (r .same-depths (suc d))) (r .unopened))
       (k (A and B) m)
   moved (or-right-first D) c k =
       let r = moved D (λ L X o s. c L X o (S.first-of-or s)) k in
       by-step (or-right-first D) (or-right-first (r .derivation)) (rw (r .same-lines))
-      (λ d. ap (_∷_ d) (r .same-depths (suc d)))
+      (λ d. ap (_∷_ d) (r .same-depths (suc d))) (r .unopened)
   moved (or-right-second D) c k =
       let r = moved D (λ L X o s. c L X o (S.second-of-or s)) k in
       by-step (or-right-second D) (or-right-second (r .derivation)) (rw (r .same-lines))
-      (λ d. ap (_∷_ d) (r .same-depths (suc d)))
+      (λ d. ap (_∷_ d) (r .same-depths (suc d))) (r .unopened)
   moved (or-left {A = A} {B = B} m D E) c k =
       ⊎-elim (λ s. absurd s)
       (λ (clear, n).
       let r = moved D c (kept-more A (λ L X o s. clear L X o (S.first-of-or s)) k) in
       let q = moved E c (kept-more B (λ L X o s. clear L X o (S.second-of-or s)) k) in
       by-step (or-left m D E) (or-left n (r .derivation) (q .derivation)) (rw (r .same-lines, q .same-lines))
-      (λ d. ap (_∷_ d) (ap₂ _++_ (r .same-depths (suc d)) (q .same-depths (suc d)))))
+      (λ d. ap (_∷_ d) (ap₂ _++_ (r .same-depths (suc d)) (q .same-depths (suc d))))
+      (λ X. neither (saysLeftNames D) (saysLeftNames E) (r .unopened X) (q .unopened X)))
       (k (A or B) m)
   moved (says-right {K = L} {A = A} D) c k =
       let r = moved D (λ o. c L A o S.itself, λ M X o s. c M X o (S.said s)) k in
       by-step (says-right D) (says-right (r .derivation)) (rw (r .same-lines))
-      (λ d. ap (_∷_ d) (r .same-depths (suc d)))
+      (λ d. ap (_∷_ d) (r .same-depths (suc d))) (r .unopened)
+  -- Here K is not the one who says it: he speaks for nobody whose affirmation is the goal.
   moved (says-left {K = L} {L = M} {A = A} m o D) c k =
       ⊎-elim (λ e. absurd (c .0 (subst (λ x. R x M) e o)))
       (λ (clear, n).
       let r = moved D c (kept-more A (λ N X p s. clear N X p (S.said s)) k) in
       by-step (says-left m o D) (says-left n o (r .derivation)) (rw (r .same-lines))
-      (λ d. ap (_∷_ d) (r .same-depths (suc d))))
+      (λ d. ap (_∷_ d) (r .same-depths (suc d)))
+      (λ X named.
+      ⊎-elim (λ e. c .0 (subst (λ x. R x M) (sym (same-speaker e)) o)) (r .unopened X) (List·Memᴰ·cases-cons named)))
       (k (L says A) m)
-
-  -- ---- no says-formula of K is named
-
-  -- The says lefts of two premises name what those of either name.
-  neither : {A : Proposition} (xs ys : List Proposition) → ¬ (A ∈ xs) → ¬ (A ∈ ys) → ¬ (A ∈ xs ++ ys)
-  neither xs ys in-first in-second m = ⊎-elim in-first in-second (List·Memᴰ·append-cases xs m)
-
-  never : {Γ : List Proposition} {γ : Judgment} (D : Derivation R Γ γ) → Clear γ → AllKept Γ Γ
-      → (X : Proposition) → ¬ ((K says X) ∈ saysLeftNames D)
-  never (init m) c k X n = List·Memᴰ·not-nil n
-  never (affirm D) c k X n = never D (c .1) k X n
-  never (implies-right {A = A} D) c k X n =
-      never D (λ L Y o s. c L Y o (S.right-of-implies s)) (kept-more A (λ L Y o s. c L Y o (S.left-of-implies s)) k) X n
-  never (implies-left {A = A} {B = B} m D E) c k X n =
-      ⊎-elim (λ s. absurd s)
-      (λ (clear, _).
-      neither (saysLeftNames D) (saysLeftNames E) (never D (λ L Y o s. clear L Y o (S.left-of-implies s)) k X)
-      (never E c (kept-more B (λ L Y o s. clear L Y o (S.right-of-implies s)) k) X) n)
-      (k (A implies B) m)
-  never (false-left m) c k X n = List·Memᴰ·not-nil n
-  never (and-right D E) c k X n =
-      neither (saysLeftNames D) (saysLeftNames E) (never D (λ L Y o s. c L Y o (S.first-of-and s)) k X)
-      (never E (λ L Y o s. c L Y o (S.second-of-and s)) k X) n
-  never (and-left {A = A} {B = B} m D) c k X n =
-      ⊎-elim (λ s. absurd s)
-      (λ (clear, _).
-      never D c (kept-more A (λ L Y o s. clear L Y o (S.first-of-and s))
-      (kept-more B (λ L Y o s. clear L Y o (S.second-of-and s)) k)) X n)
-      (k (A and B) m)
-  never (or-right-first D) c k X n = never D (λ L Y o s. c L Y o (S.first-of-or s)) k X n
-  never (or-right-second D) c k X n = never D (λ L Y o s. c L Y o (S.second-of-or s)) k X n
-  never (or-left {A = A} {B = B} m D E) c k X n =
-      ⊎-elim (λ s. absurd s)
-      (λ (clear, _).
-      neither (saysLeftNames D) (saysLeftNames E)
-      (never D c (kept-more A (λ L Y o s. clear L Y o (S.first-of-or s)) k) X)
-      (never E c (kept-more B (λ L Y o s. clear L Y o (S.second-of-or s)) k) X) n)
-      (k (A or B) m)
-  never (says-right {K = L} {A = A} D) c k X n =
-      never D (λ o. c L A o S.itself, λ M Y o s. c M Y o (S.said s)) k X n
-  never (says-left {K = L} {L = M} {A = A} m o D) c k X n =
-      ⊎-elim (λ e. c .0 (subst (λ x. R x M) (sym (same-speaker e)) o))
-      (λ later.
-      ⊎-elim (λ e. c .0 (subst (λ x. R x M) e o))
-      (λ (clear, _). never D c (kept-more A (λ N Y p s. clear N Y p (S.said s)) k) X later)
-      (k (L says A) m))
-      (List·Memᴰ·cases-cons n)
-    where
-      same-speaker : (K says X) ≡ (L says A) → K ≡ L
-      same-speaker e = cc
 
   -- ---- the promises
 
   -- At first the statements of Γ are kept.
   kept-first : {Γ Δ : List Proposition} {C : Proposition} → Independent R K Γ C → HasOthers K Γ Δ → AllKept Γ Δ
-  kept-first i has A m = ⊎-elim inl (λ other. inr (none-in (i .of-statements A m other), has A m other)) (own-or-not K A)
+  kept-first i has A m =
+      ⊎-elim inl (λ other. inr (none-in (i .of-statements A m other), has A m other)) (own-or-not K A)
 
 pub same-proofs : (R : Relation) → SameProofs R
 same-proofs R K Γ Δ C i has D =
@@ -211,4 +181,4 @@ both-or-neither R K Γ Δ C i has back = (
 )
 
 pub never-opened : (R : Relation) → NeverOpened R
-never-opened R K Γ C i D = never R K D (none-in R K (i .of-goal)) (kept-first R K i (λ A m other. m))
+never-opened R K Γ C i D = moved R K D (none-in R K (i .of-goal)) (kept-first R K i (λ A m other. m)) .unopened

@@ -26,6 +26,7 @@ use Rattle.table.specs.Spelled.{spell, spellAll}
 use Rattle.table.proofs.Shapes.{spell-at}
 use Rattle.steps.specs.Naming.{namedNumbers, isSaysLeft}
 use Rattle.steps.specs.Words.{words}
+use Rattle.steps.proofs.ByLines.{words-of-same-lines}
 use Rattle.signers.specs.Each.{Signs, AreSigners}
 use Rattle.signers.specs.Signers.{signers as signersOf}
 use Rattle.signers.proofs.Each.{signers-are}
@@ -41,7 +42,6 @@ use Rattle.independence.specs.SameProofs.{HasOthers}
 use Rattle.independence.specs.Promises.{SameButFor, SameWordsSay, SameWords, NeverSigns}
 use Rattle.independence.proofs.SameProofs.{same-proofs, independent-of-others, never-opened}
 use Rattle.independence.proofs.Answer.{independent-exactly}
-use Rattle.independence.proofs.ByLines as ByLines
 
 -- ---- over one table
 
@@ -81,7 +81,7 @@ still-proof R {K} {es} {ns} {ms} {g} i o p =
     record {
       derivation = r .derivation;
       within = λ d m. p .within d (subst (λ (ds : List ℕ). d ∈ ds) (r .same-depths) m);
-      is = p .is ∙ ByLines.same-words (p .derivation) (r .derivation) (r .same-lines) (number es);
+      is = p .is ∙ words-of-same-lines (p .derivation) (r .derivation) (r .same-lines) (number es);
     }
 
 -- which is independent of K beside either.

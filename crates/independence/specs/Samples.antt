@@ -11,14 +11,15 @@ use Rattle.logic.specs.Principals.{Relation}
 use Rattle.logic.specs.Force.{HasProof}
 use Rattle.logic.specs.Sides.{seven}
 use Rattle.logic.specs.Figure1 as Figure1
+use Rattle.steps.specs.Figure1.{same}
 use Rattle.record.specs.Samples.{overT, bytesOfA}
 use Rattle.record.specs.Proof.{statedBy, goalOf}
 use Rattle.independence.specs.declared.verdict.IndependenceVerdict.{IndependenceVerdict}
 use Rattle.independence.specs.declared.verdict.IndependenceVerdict.the-variants.{Independent, NotIndependent, Refused}
-use Rattle.independence.specs.Test as AnyTest
+use Rattle.independence.specs.Test.{isIndependent}
 use Rattle.independence.specs.SameProofs.{HasOthers}
 use Rattle.independence.specs.Promises.{SameButFor}
-use Rattle.independence.specs.Figure1.{isIndependent, independenceAnswer}
+use Rattle.independence.specs.Figure1.{independenceAnswer}
 
 -- ---- sides
 
@@ -38,8 +39,8 @@ row goal statements independent = record { goal = goal; statements = statements;
 -- What 7 says as the goal, and what 8 says. Then 7's in a goal, on either side of each kind: the left of an implies
 -- takes the other side, and the left of that gives the first one back; inside what 8 says the side is kept, and what 7
 -- says counts itself.
-abbrev pub inGoals : List Row
-inGoals =
+abbrev pub goalRows : List Row
+goalRows =
     row seven [] false
     ∷ row eight [] true
     ∷ row (seven implies atom 1) [] true
@@ -59,8 +60,8 @@ inGoals =
 
 -- The same in a statement, which stands on the given side. 7's own paper is left out with all inside it; a paper of 8
 -- is not. What stands on both sides counts, and so does what stands in the last of three statements.
-abbrev pub inStatements : List Row
-inStatements =
+abbrev pub statementRows : List Row
+statementRows =
     row (atom 2) (seven ∷ []) true
     ∷ row (atom 2) (seven implies atom 1 ∷ []) false
     ∷ row (atom 2) (atom 1 implies seven ∷ []) true
@@ -80,21 +81,19 @@ inStatements =
     ∷ row (atom 2) (7 says (seven implies atom 1) ∷ atom 1 ∷ seven implies atom 2 ∷ []) false
     ∷ []
 
+-- Each row has its answer, where `speaks` compares principals.
 abbrev pub AnsweredBy : (ℕ → ℕ → Bool) → List Row → Type 0
 AnsweredBy speaks rows =
-    map (λ r. AnyTest.isIndependent speaks 7 (r .statements) (r .goal)) rows ≡ map (λ r. r .independent) rows
-
-abbrev pub Answered : List Row → Type 0
-Answered rows = map (λ r. isIndependent 7 (r .statements) (r .goal)) rows ≡ map (λ r. r .independent) rows
+    map (λ r. isIndependent speaks 7 (r .statements) (r .goal)) rows ≡ map (λ r. r .independent) rows
 
 abbrev pub InGoals : Type 0
-InGoals = Answered inGoals
+InGoals = AnsweredBy same goalRows
 
 abbrev pub InStatements : Type 0
-InStatements = Answered inStatements
+InStatements = AnsweredBy same statementRows
 
--- Where each principal speaks for himself and for those with a higher number (02, job 14), 7 for 8 and not for 6: what 8
--- says counts as what 7 says does, and what 6 says doesn't. A paper of 8 is not left out.
+-- Where each principal speaks for himself and for those with a higher number (02, job 14), 7 for 8 and not for 6: what
+-- 8 says counts as what 7 says does, and what 6 says doesn't. A paper of 8 is not left out.
 abbrev pub WithDeputies : Type 0
 WithDeputies = AnsweredBy leb
     (row seven [] false
@@ -124,8 +123,8 @@ AnySteps =
     map (λ steps. answerTo (overT (1 ∷ []) 1 steps) 8) ((65535 ∷ 65535 ∷ []) ∷ [] ∷ [])
     ≡ Independent ∷ Refused 2 0 ∷ []
 
--- "17, after 7": with principal 65,535 no byte at all is 1, no formula 2, a word too many 3, a wrong entry 4, a repeated
--- one 5, a goal of F or more 6, and a statement of F or more 7.
+-- "17, after 7": with principal 65,535 no byte at all is 1, no formula 2, a word too many 3, a wrong entry 4, a
+-- repeated one 5, a goal of F or more 6, and a statement of F or more 7.
 abbrev pub Order : Type 0
 Order =
     map (λ words. answerTo words 65535)

@@ -3,10 +3,12 @@ use Prim.Native.Nat.{ℕ, _+_, _≤_, _<_}
 use native.Mathlib.Numerals.{add-one}
 use mathlib.Core.Bool.{Bool, true, false, not, _||_}
 use mathlib.Core.Path.{_≡_, refl, sym, ap, ap₂, _∙_}
+use mathlib.Core.Logic.{inr}
 use mathlib.Core.List.{List, _∷_}
 use lib.ListN.{length, getD, take, drop, drop-of-length-le}
 use lib.Seq.{drop-cons}
 use Rattle.basics.specs.Choice.{both}
+use Rattle.basics.proofs.Choice.{both-false}
 use Rattle.logic.specs.Proposition.{Proposition}
 use Rattle.logic.specs.Sides.{proving, given}
 use Rattle.table.specs.declared.entry.Entry.{Entry}
@@ -16,10 +18,6 @@ use Rattle.table.proofs.Spelled.{made-before}
 use Rattle.steps.specs.Figure1.{same}
 use Rattle.independence.specs.Test.{isOwn, provingSays, inStatement, inStatements}
 use Rattle.independence.specs.Figure1.{isIndependent}
-
-both-false : (b : Bool) → both b false ≡ false
-both-false true = refl
-both-false false = refl
 
 module _ (K : ℕ) (es : List Entry) where
   -- ---- one statement
@@ -35,15 +33,14 @@ module _ (K : ℕ) (es : List Entry) where
   -- What the code asks of one: its mark, and then whether it is K's own.
   module _ (n : ℕ) {m : Bool} (marked : m ≡ provingSays same K given (spell es n)) where
     pub unmarked : m ≡ false → inStatement same K (spell es n) ≡ false
-    unmarked none =
-        ap (both (not (isOwn K (spell es n)))) (sym marked ∙ none) ∙ both-false (not (isOwn K (spell es n)))
+    unmarked none = both-false (not (isOwn K (spell es n))) _ .1 (inr (sym marked ∙ none))
 
     module _ {o : Bool} (owned : o ≡ isOwn K (spell es n)) where
       pub counted : m ≡ true → o ≡ false → inStatement same K (spell es n) ≡ true
       counted some other = ap₂ (λ (x y : Bool). both (not x) y) (sym owned ∙ other) (sym marked ∙ some)
 
-      pub own : o ≡ true → inStatement same K (spell es n) ≡ false
-      own is = ap (λ (x : Bool). both (not x) (provingSays same K given (spell es n))) (sym owned ∙ is)
+      pub left-out : o ≡ true → inStatement same K (spell es n) ≡ false
+      left-out is = ap (λ (x : Bool). both (not x) (provingSays same K given (spell es n))) (sym owned ∙ is)
 
   -- ---- the loop
 

@@ -18,8 +18,7 @@ use Rattle.file.specs.Layout.{layoutTests}
 use Rattle.file.proofs.LayoutLaws.{passed-to-three}
 use Rattle.table.specs.declared.entry.Principal.{Principal}
 use Rattle.table.specs.Entry.{principal}
-use Rattle.table.specs.Tests.{entries, sized as sizedTable, SizedTable}
-use Rattle.table.specs.Spelled.{spell, spellAll}
+use Rattle.table.specs.Tests.{sized as sizedTable, SizedTable}
 use Rattle.steps.specs.Figure1.{same}
 use Rattle.record.specs.Layout.{recordLayout, goal, heads, seconds, statements}
 use Rattle.record.specs.Proof.{Sized}
@@ -31,8 +30,8 @@ use Rattle.independence.specs.declared.verdict.IndependenceVerdict.{Independenc
 use Rattle.independence.specs.declared.verdict.IndependenceVerdict.the-variants.{Independent, NotIndependent, Refused}
 use Rattle.independence.specs.Answer as Any
 use Rattle.independence.specs.Answer.{principalOutside, tests}
-use Rattle.independence.specs.Figure1.{isIndependent, independenceAnswer}
-use Rattle.independence_check.specs.Parts.{arraysTests, arraysVerdict, arraysAnswer, PartsOfFile}
+use Rattle.independence.specs.Figure1.{independenceAnswer}
+use Rattle.independence_check.specs.Parts.{arraysTests, arraysIndependent, arraysVerdict, arraysAnswer, PartsOfFile}
 
 -- ---- over arrays
 
@@ -60,15 +59,12 @@ module _ (heads seconds statements : List ℕ) (goal K : ℕ) where
 
       -- Else the test of sides decides, of the principal asked about.
       pub decided : {k : Principal} {b : Bool} (t : Bool) → K < mostPrincipals → k ≡ principal K
-          → b ≡ isIndependent (k .0) (spellAll (entries heads seconds) statements) (spell (entries heads seconds) goal)
-          → b ≡ t → pick t Independent NotIndependent ≡ arraysAnswer heads seconds statements goal K
+          → b ≡ arraysIndependent heads seconds statements goal (k .0) → b ≡ t
+          → pick t Independent NotIndependent ≡ arraysAnswer heads seconds statements goal K
       decided t l asked is e =
           ap (λ (b : Bool). pick b Independent NotIndependent) (sym e ∙ is)
           ∙ ap
-          (λ (k : Principal).
-          pick
-          (isIndependent (k .0) (spellAll (entries heads seconds) statements) (spell (entries heads seconds) goal))
-          Independent NotIndependent)
+          (λ (k : Principal). pick (arraysIndependent heads seconds statements goal (k .0)) Independent NotIndependent)
           asked
           ∙ ap answer (sym (after-7 ∙ goes-on-at-0 17 [] (lt-leb _ _ l) ∙ none-left))
 

@@ -1,2 +1,3 @@
--- What the test whether a principal can matter answers over arrays.
+-- What the test whether a principal can matter answers over arrays, and the marks of an entry.
 pub mod Parts
+pub mod Marks

@@ -1,6 +1,7 @@
 -- What the test answers over the arrays of a file, without its steps: 2 and 4 to 7, 17, and the verdict. Assumes
 -- nothing.
 use Prim.Native.Nat.{ℕ}
+use mathlib.Core.Bool.{Bool}
 use mathlib.Core.Path.{_≡_}
 use mathlib.Core.List.{List, [], _∷_, _++_}
 use Rattle.basics.specs.Choice.{pick}
@@ -20,10 +21,14 @@ abbrev pub arraysTests : List ℕ → List ℕ → List ℕ → ℕ → ℕ → 
 arraysTests heads seconds statements goal K =
     partTests heads seconds statements goal ++ (test 17 (principalOutside K) ∷ [])
 
+-- the test, of what the statements and the goal spell
+abbrev pub arraysIndependent : List ℕ → List ℕ → List ℕ → ℕ → ℕ → Bool
+arraysIndependent heads seconds statements goal K =
+    isIndependent K (spellAll (entries heads seconds) statements) (spell (entries heads seconds) goal)
+
 abbrev pub arraysVerdict : List ℕ → List ℕ → List ℕ → ℕ → ℕ → IndependenceVerdict
 arraysVerdict heads seconds statements goal K =
-    pick (isIndependent K (spellAll (entries heads seconds) statements) (spell (entries heads seconds) goal))
-    Independent NotIndependent
+    pick (arraysIndependent heads seconds statements goal K) Independent NotIndependent
 
 abbrev pub arraysAnswer : List ℕ → List ℕ → List ℕ → ℕ → ℕ → IndependenceVerdict
 arraysAnswer heads seconds statements goal K =

@@ -2,15 +2,10 @@
 // implies takes the other" (02, job 5). One pass over the table marks, for either side, the formulas in which a
 // says-formula that counts stands, where the formula itself stands on that side; each from the marks of its operands.
 ghost use Prim.Native.Nat.{_≤_};
-ghost use mathlib.Core.Path.{_≡_};
-ghost use mathlib.Core.List.{List, map};
-ghost use lib.ListN.{length, take};
-ghost use Rattle.logic.specs.Proposition.{Proposition};
+ghost use lib.ListN.{length};
 ghost use Rattle.logic.specs.Sides as Sides;
 ghost use Rattle.table.specs.Tests.{entries};
-ghost use Rattle.table.specs.Spelled.{proposition, spelled};
-ghost use Rattle.steps.specs.Figure1.{same};
-ghost use Rattle.independence.specs.Test.{provingSays};
+ghost use Rattle.independence_check.specs.Marks.{Marked, MarksOf};
 use marks::is_set;
 use steps::speaks::speaks_for;
 use table::entry::Entry;
@@ -26,7 +21,7 @@ struct Marks {
 
 // The marks of an entry, by those of the entries before it. What has no mark yet spells false, in which none stands.
 fn marks_of(proving: &[bool], given: &[bool], k: Principal, entry: Entry) -> Marks
-    ensures { λ r. ⌜ ((made : List Proposition) → now (proving .entry) ≡ map (provingSays same (k .0) Sides.proving) made → now (given .entry) ≡ map (provingSays same (k .0) Sides.given) made → (r .proving ≡ provingSays same (k .0) Sides.proving (proposition made entry)) × (r .given ≡ provingSays same (k .0) Sides.given (proposition made entry))) ⌝ }
+    ensures { λ r. ⌜ MarksOf (k .0) (now (proving .entry)) (now (given .entry)) entry (r .proving) (r .given) ⌝ }
 {
     match entry {
         Entry::Implies(a, b) => Marks {
@@ -59,8 +54,8 @@ pub(crate) fn mark_sides(
 )
     requires { ⌜ length (entries (now heads) (now seconds)) ≤ length (now proving) ⌝ }
     requires { ⌜ length (entries (now heads) (now seconds)) ≤ length (now given) ⌝ }
-    ensures { λ _. ⌜ take (length (entries (now (heads .entry)) (now (seconds .entry)))) (now (proving .exit)) ≡ map (provingSays same (k .0) Sides.proving) (spelled (entries (now (heads .entry)) (now (seconds .entry)))) ⌝ }
-    ensures { λ _. ⌜ take (length (entries (now (heads .entry)) (now (seconds .entry)))) (now (given .exit)) ≡ map (provingSays same (k .0) Sides.given) (spelled (entries (now (heads .entry)) (now (seconds .entry)))) ⌝ }
+    ensures { λ _. ⌜ Marked Sides.proving (k .0) (now (heads .entry)) (now (seconds .entry)) (now (proving .exit)) ⌝ }
+    ensures { λ _. ⌜ Marked Sides.given (k .0) (now (heads .entry)) (now (seconds .entry)) (now (given .exit)) ⌝ }
 {
     let mut i = 0;
     while i < heads.len() && i < seconds.len() {

@@ -7,10 +7,10 @@ ghost use lib.ListN.{length};
 ghost use Rattle.logic.specs.Proposition.{Proposition};
 ghost use Rattle.logic.specs.Sides as Sides;
 ghost use Rattle.table.specs.Tests.{entries, SizedTable};
-ghost use Rattle.table.specs.Spelled.{proposition, spelled, spell, spellAll};
+ghost use Rattle.table.specs.Spelled.{proposition, spelled, spellAll};
 ghost use Rattle.steps.specs.Figure1.{same};
 ghost use Rattle.independence.specs.Test.{isOwn, provingSays, inStatements};
-ghost use Rattle.independence.specs.Figure1.{isIndependent};
+ghost use Rattle.independence_check.specs.Parts.{arraysIndependent};
 use crate::sides::mark_sides;
 use basics::limits::MOST_FORMULAS;
 use marks::is_set;
@@ -67,7 +67,7 @@ fn test_in(
     requires { ⌜ SizedTable (now heads) (now seconds) ⌝ }
     requires { ⌜ length (now heads) ≤ length (now proving) ⌝ }
     requires { ⌜ length (now heads) ≤ length (now given) ⌝ }
-    ensures { λ r. ⌜ r ≡ isIndependent (k .0) (spellAll (entries (now (heads .entry)) (now (seconds .entry))) (now (statements .entry))) (spell (entries (now (heads .entry)) (now (seconds .entry))) goal) ⌝ }
+    ensures { λ r. ⌜ r ≡ arraysIndependent (now (heads .entry)) (now (seconds .entry)) (now (statements .entry)) goal (k .0) ⌝ }
 {
     mark_sides(heads, seconds, k, proving, given);
     let formulas = heads.len();
@@ -86,7 +86,7 @@ pub(crate) fn is_independent(
     k: Principal,
 ) -> bool
     requires { ⌜ SizedTable (now heads) (now seconds) ⌝ }
-    ensures { λ r. ⌜ r ≡ isIndependent (k .0) (spellAll (entries (now (heads .entry)) (now (seconds .entry))) (now (statements .entry))) (spell (entries (now (heads .entry)) (now (seconds .entry))) goal) ⌝ }
+    ensures { λ r. ⌜ r ≡ arraysIndependent (now (heads .entry)) (now (seconds .entry)) (now (statements .entry)) goal (k .0) ⌝ }
 {
     if heads.len() <= FEW_FORMULAS {
         let mut proving = [false; FEW_FORMULAS];

@@ -11,6 +11,7 @@ pub mod Kept
 pub mod Eight
 pub mod Small
 pub mod Longer
+pub mod SameTests
 pub mod SameSet
 pub mod Figure1
 pub mod Former

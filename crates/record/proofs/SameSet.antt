@@ -4,7 +4,7 @@ use Prim.Native.Nat.{ℕ, _<_}
 use mathlib.Core.Bool.{Bool}
 use mathlib.Core.Path.{_≡_, refl, sym, ap, ap₂, subst, _∙_}
 use mathlib.Core.Logic.{Iff·symm}
-use mathlib.Core.List.{List, [], _∷_}
+use mathlib.Core.List.{List, [], _∷_, _++_}
 use lib.ListN.{length}
 use Rattle.basics.specs.Membership.{_∈_}
 use Rattle.basics.specs.Limits.{mostDepth}
@@ -12,7 +12,7 @@ use Rattle.basics.specs.Refusals.{test}
 use Rattle.file.proofs.Outside.{none-outside}
 use Rattle.table.specs.declared.entry.Entry.{Entry}
 use Rattle.table.specs.Entry.{formula}
-use Rattle.table.specs.Tests.{entries, wrongEntry, repeatedEntry}
+use Rattle.table.specs.Tests.{entries}
 use Rattle.logic.proofs.Principals.{Decided, decided}
 use Rattle.steps.specs.declared.goal.Goal.the-variants.{True}
 use Rattle.steps.specs.Alike.{Alike}
@@ -23,15 +23,14 @@ use Rattle.steps.proofs.Alike.{hypotheses-are-a-set}
 use Rattle.signers.specs.Signers.{signers as signersOf}
 use Rattle.signers.proofs.Each.{same-signers}
 use Rattle.record.specs.Layout.{formulas, goal, statements, steps, table, saysLeftNumbers, signers}
-use Rattle.record.specs.Answer.{goalOutside, statementOutside, listShort, tests, stepVerdict, recordAnswer}
+use Rattle.record.specs.Answer.{statementOutside, listShort, tests, stepVerdict, recordAnswer}
 use Rattle.record.specs.Proof.{Sized}
 use Rattle.record.specs.Promises.{SameButStatements, SameSet, StatementsAreASet, StatedTwice}
-use Rattle.record.proofs.Lengths.{length-heads}
-use Rattle.record.proofs.Keeps.{none-to-3-is}
+use Rattle.record.proofs.SameTests.{same-formulas, same-to-7}
 use Rattle.record.proofs.Granted.{granted-exactly}
 
 -- The other way round.
-pub turned-rest : {file other : List ℕ} → SameButStatements file other → SameButStatements other file
+turned-rest : {file other : List ℕ} → SameButStatements file other → SameButStatements other file
 turned-rest r = record {
   same-heads = sym (r .same-heads);
   same-seconds = sym (r .same-seconds);
@@ -77,29 +76,19 @@ module _ (file other : List ℕ) (s : SameSet file other) where
 
   module _ (speaks : ℕ → ℕ → Bool) (fits : Sized file) (fits′ : Sized other) (below : (n : ℕ) → n ∈ statements file
       → n < formulas file) (room : ℕ) where
-    -- Their tables are as long, and 7 doesn't apply to the other either.
-    same-formulas : formulas file ≡ formulas other
-    same-formulas = sym (length-heads file fits) ∙ ap length (rest .same-heads) ∙ length-heads other fits′
-
+    -- 7 doesn't apply to the other either, since their tables are as long.
     below′ : (n : ℕ) → n ∈ statements other → n < formulas other
-    below′ n m = subst (λ (F : ℕ). n < F) same-formulas (below n (s .same-statements n .1 m))
+    below′ n m =
+        subst (λ (F : ℕ). n < F) (same-formulas fits fits′ (rest .same-heads)) (below n (s .same-statements n .1 m))
 
-    -- 1 to 3 and 7 don't apply to either, and the others look at what is the same.
+    -- It applies to neither, and the other tests look at what is the same.
     same-tests : tests speaks file room ≡ tests speaks other room
     same-tests =
-        let (one, (two, (three, _))) = none-to-3-is file .1 fits in
-        let (one′, (two′, (three′, _))) = none-to-3-is other .1 fits′ in
-        let first = one ∙ sym one′ in
-        let second = two ∙ sym two′ in
-        let third = three ∙ sym three′ in
-        let fourth : wrongEntry (table file) ≡ wrongEntry (table other) = ap wrongEntry (same-table rest) in
-        let fifth = ap₂ repeatedEntry (rest .same-heads) (rest .same-seconds) in
-        let sixth : goalOutside file ≡ goalOutside other = cc (same-formulas, rest .same-goal) in
-        let seventh : statementOutside file ≡ statementOutside other = none-outside _ (statements file) .1 below ∙ sym (none-outside _ (statements other) .1 below′) in
+        let seventh : statementOutside file ≡ statementOutside other =
+        none-outside _ (statements file) .1 below ∙ sym (none-outside _ (statements other) .1 below′) in
+        let to-7 = same-to-7 fits fits′ (rest .same-heads) (rest .same-seconds) (rest .same-goal) seventh in
         let eighth : listShort file room ≡ listShort other room = cc same-count in
-        λ i.
-        test 1 (first i) ∷ test 2 (second i) ∷ test 3 (third i) ∷ test 4 (fourth i) ∷ test 5 (fifth i) ∷ test 6 (sixth i) ∷ test 7 (seventh i)
-        ∷ walked (same-verdict speaks i) ∷ test 8 (eighth i) ∷ []
+        λ i. to-7 i ++ (walked (same-verdict speaks i) ∷ test 8 (eighth i) ∷ [])
 
     same-answer : recordAnswer speaks file room ≡ recordAnswer speaks other room
     unfolding recordAnswer

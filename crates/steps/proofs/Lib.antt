@@ -23,6 +23,7 @@ pub mod Runs
 pub mod Trace
 pub mod PremiseCounts
 pub mod ByWord
+pub mod ByLines
 pub mod Naming
 pub mod OverTable
 pub mod Answer

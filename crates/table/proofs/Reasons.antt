@@ -13,7 +13,7 @@ use Rattle.basics.specs.declared.place.Place.the-variants.{At}
 use Rattle.basics.specs.Choice.{both}
 use Rattle.basics.specs.First.{first, found, IsFirst}
 use Rattle.basics.specs.Word.{upper, lower}
-use Rattle.basics.proofs.Choice.{both-true, pick-cases}
+use Rattle.basics.proofs.Choice.{both-true, both-false, pick-cases}
 use Rattle.basics.proofs.First.{first-place, no-place, found-at, is-found}
 use Rattle.basics.proofs.Asked.{equal, both-are}
 use Rattle.basics.proofs.Order.{OneApplies}
@@ -27,11 +27,6 @@ use Rattle.table.specs.Reasons.{EntryReason, wrong-entry, repeated-entry
 use Rattle.table.proofs.Entries.{length-entries, entry-at}
 
 -- ---- 4, of an entry
-
--- two tests at once are false exactly when either is
-both-false : (a b : Bool) → both a b ≡ false ↔ ((a ≡ false) ⊎ (b ≡ false))
-both-false true b = (inr, ⊎-elim (λ e. absurd (true≢false e)) (λ e. e))
-both-false false b = (λ e. inl refl, λ e. refl)
 
 module _ (i head second : ℕ) where
   abbrev Wrong : Type 0

@@ -1,6 +1,6 @@
 //! docs/TRUST.md is true of the repository: the lines of each specs/, the public functions, the
 //! must-fail edits; and what is to be believed cites no proof. The paths into crates/ that
-//! README.md and six pages of docs/ name exist. A message says what to put right.
+//! README.md and seven pages of docs/ name exist. A message says what to put right.
 mod common;
 
 use common::top;
@@ -146,7 +146,7 @@ fn edits_that_are_named_exist() {
 
 #[test]
 fn paths_that_are_named_exist() {
-    let docs = ["TRUST", "PROMISES", "CLASSES", "FORMAT", "FOLDING", "SENTENCES"];
+    let docs = ["TRUST", "PROMISES", "CLASSES", "FORMAT", "FOLDING", "SENTENCES", "INDEPENDENCE"];
     let docs = docs.map(|name| format!("docs/{name}.md"));
     for page in docs.iter().map(String::as_str).chain(["README.md"]) {
         let written = text(page);

@@ -113,8 +113,9 @@ pub fn independence() -> Section<Record> {
                 where no (p7 says A) stands on the proving side of the goal or of a statement \
                 that is no paper of p7. Then p7's papers may be taken out, or others of p7 put in, \
                 and steps that are a proof stay one, with the same signers. \
-                `docs/INDEPENDENCE.md` says more. Here p7 is the contractor, with a paper in each record. (A, B, I, M, \
-                statement-outside, both-foremen and every-rule have their lines above.)",
+                `docs/INDEPENDENCE.md` says more. Here p7 is the contractor, with a paper in each \
+                record. (A, B, I, M, statement-outside, both-foremen and every-rule have their \
+                lines above.)",
         samples: vec![
             sample(
                 "goal-is-his-word",

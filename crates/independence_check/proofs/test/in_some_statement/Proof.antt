@@ -13,7 +13,7 @@ use Rattle.table.specs.Spelled.{spelled, spellAll}
 use Rattle.steps.specs.Figure1.{same}
 use Rattle.independence.specs.Test.{inStatements}
 use Rattle.independence_check.proofs.Marks.{mark-of}
-use Rattle.independence_check.proofs.Statements.{own-of, counted, unmarked, own, inFrom, found-here, not-here, none-left}
+use Rattle.independence_check.proofs.Statements.{own-of, counted, unmarked, left-out, inFrom, found-here, not-here, none-left}
 use Rattle.independence_check.proofs.test.in_some_statement.Statement.{statement}
 use Rattle.independence_check.proofs.test.in_some_statement.Tie as tie
 
@@ -58,7 +58,7 @@ loop-again c =
     not-here (a .k .0) es (a .statements .now) (l .before .loop .i) (l .before .loop .inv) (l .loop-test .taken)
     (⊎-elim
     (λ w.
-    own (a .k .0) es n marked (own-of (a .k .0) es n (w .1 .ensures) (w .2 .ensures)) (not-false _ (w .3 .left)))
+    left-out (a .k .0) es n marked (own-of (a .k .0) es n (w .1 .ensures) (w .2 .ensures)) (not-false _ (w .3 .left)))
     (λ w. unmarked (a .k .0) es n marked (w .left))
     (c .if1 .came))
 

@@ -1,20 +1,15 @@
--- What the lines of a derivation determine: its words, and what its says lefts name. Assumes nothing.
+-- The lines of a derivation determine its words, whichever list it is from. Assumes nothing.
 use Prim.Native.Nat.{ℕ}
-use mathlib.Core.Path.{_≡_, refl, sym, ap, ap₂, subst, _∙_}
-use mathlib.Core.Logic.{_↔_, Iff·symm, Iff·trans}
+use mathlib.Core.Path.{_≡_, refl, sym, ap, ap₂, _∙_}
 use mathlib.Core.Option.{Option, none, some}
 use mathlib.Core.List.{List, _∷_, _++_, map, map-append}
-use Rattle.basics.specs.Membership.{_∈_}
 use Rattle.basics.specs.Word.{word}
 use Rattle.logic.specs.Proposition.{Proposition}
 use Rattle.logic.specs.Judgment.{Judgment}
 use Rattle.logic.specs.Principals.{Relation}
 use Rattle.logic.specs.Derivation.{Derivation, init, affirm, implies-right, implies-left, false-left, and-right, and-left, or-right-first, or-right-second, or-left, says-right, says-left}
-use Rattle.logic.specs.Named.{saysLeftNames}
-use Rattle.steps.specs.Naming.{Names, isSaysLeft}
 use Rattle.steps.specs.Trace.{Line, lines}
 use Rattle.steps.specs.Words.{words}
-use Rattle.steps.proofs.Naming.{says-left-lines}
 
 -- "A step word is code × 4,096 + the named formula's number; where the rule names none that part is 0." (01)
 abbrev numberNamed : (Proposition → ℕ) → Option Proposition → ℕ
@@ -54,12 +49,7 @@ module _ {R : Relation} (number : Proposition → ℕ) where
 
 module _ {R : Relation} {Γ Δ : List Proposition} {γ δ : Judgment} (D : Derivation R Γ γ) (E : Derivation R Δ δ)
     (same : lines E ≡ lines D) where
-  -- Derivations with the same lines have the same words,
-  pub same-words : (number : Proposition → ℕ) → words number D ≡ words number E
-  same-words number = words-by-lines number D ∙ ap (map (wordOf number)) (sym same) ∙ sym (words-by-lines number E)
-
-  -- and their says lefts name the same.
-  pub same-names : (A : Proposition) → A ∈ saysLeftNames D ↔ A ∈ saysLeftNames E
-  same-names A =
-      Iff·trans (Iff·symm (says-left-lines R Γ γ D A))
-      (subst (λ (ls : List Line). Names isSaysLeft ls A ↔ A ∈ saysLeftNames E) same (says-left-lines R Δ δ E A))
+  -- Derivations with the same lines have the same words.
+  pub words-of-same-lines : (number : Proposition → ℕ) → words number D ≡ words number E
+  words-of-same-lines number =
+      words-by-lines number D ∙ ap (map (wordOf number)) (sym same) ∙ sym (words-by-lines number E)
