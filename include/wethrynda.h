@@ -138,7 +138,7 @@ static inline uint64_t wethrynda_sentences(const uint8_t *file, size_t file_leng
  *
  * What the caller sees to, since the function cannot test it:
  * - The pointer and the file, as for an exchange file.
- * - The thread has about 160 KB of stack left: the table is held and searched for repeated entries there.
+ * - The thread has about 180 KB of stack left: the table is held and searched for repeated entries there.
  */
 uint64_t wethrynda_independent_of(const uint8_t *file, size_t file_length, uint16_t principal);
 

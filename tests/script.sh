@@ -198,7 +198,7 @@ of() { # PRINCIPAL STATUS LINE TEXT
     check "program: A of $1" 0 "$3" '' "$independence" "$1" <"$room/A"
     check "script: A of $1" "$2" "$3" "$4" "$script" independent "$1" "$room/A"
 }
-for principal in 7 07 00007 "$(printf %030d 7)" "$(printf %04000d 7)"; do
+for principal in 7 07 00007 "$(printf %030d 7)" "$(printf %04096d 7)"; do
     of "$principal" 1 'not independent' 'may matter'
 done
 for principal in 0 00 8 08 71 263 4095 04095; do of "$principal" 0 'independent' ''; done
@@ -212,7 +212,7 @@ for principal in 4096 123456789012345678901234567890; do
     check "program: the longest record, of $principal" 0 'refused 5 place 1' '' "$independence" "$principal" \
         <"$room/longest-record"
 done
-for word in '' x 7x x7 -7 +7 -0 ' 7' '7 ' '7 8' 7.0 7,0 0x7 '*' "7$newline" - -- "$(printf %05000d 7)"; do
+for word in '' x 7x x7 -7 +7 -0 ' 7' '7 ' '7 8' 7.0 7,0 0x7 '*' "7$newline" - -- "$(printf %04097d 7)"; do
     check "program: A of '$word'" 0 '' 'usage:' "$independence" "$word" <"$room/A"
     check "script: A of '$word'" 2 '' 'usage:' "$script" independent "$word" "$room/A"
 done
@@ -221,7 +221,7 @@ check 'program: two principals' 0 '' 'usage:' "$independence" 7 8 <"$room/A"
 check 'program: a principal and a file' 0 '' 'usage:' "$independence" 7 "$room/A" </dev/null
 echo 'not read' >"$room/unread"
 # shellcheck disable=SC2016 # for the inner shell
-for word in '' x "$(printf %05000d 7)"; do
+for word in '' x "$(printf %04097d 7)"; do
     check "program: nothing is read, of '$word'" 0 'not read' 'usage:' sh -c '"$@"; cat' sh "$independence" "$word" \
         <"$room/unread"
 done

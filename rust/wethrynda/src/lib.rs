@@ -166,7 +166,7 @@ pub fn write_sentences(file: &[u8], signers: &mut [u16], text: &mut [u8]) -> Sen
 /// Nothing is changed. The record's steps are counted and not looked at, and a list for signers is
 /// not asked for, so 1 to 7 apply, and after them 17: the principal's number is above 4,095.
 ///
-/// It needs about 160 KB of stack, which a thread has by default.
+/// It needs about 180 KB of stack, which a thread has by default.
 pub fn independent_of(file: &[u8], principal: u16) -> Independence {
     // SAFETY: the pointer is that of a slice, so it is not null, even where the slice is empty, and
     // the length is its own. The function's contract asks nothing more, and it is proved to stay
