@@ -14,6 +14,10 @@ pub both-false : (a b : Bool) → both a b ≡ false ↔ ((a ≡ false) ⊎ (b �
 both-false true b = (inr, ⊎-elim (λ e. absurd (true≢false e)) (λ e. e))
 both-false false b = (λ e. inl refl, λ e. refl)
 
+-- So they are false where the second is.
+pub both-none : (a : Bool) → both a false ≡ false
+both-none a = both-false a false .1 (inr refl)
+
 -- One or the other is true exactly when either is.
 pub either-true : (a b : Bool) → (a || b) ≡ true ↔ ((a ≡ true) ⊎ (b ≡ true))
 either-true true b = (λ e. inl refl, λ e. refl)

@@ -8,7 +8,7 @@ use native.Mathlib.Numerals.{add-one}
 use mathlib.Core.Path.{_≡_, refl, sym, ap, _∙_}
 use mathlib.Core.List.{List, [], _∷_, _++_}
 use lib.ListN.{length, getD, take, drop, set, length-drop, take-append-drop}
-use lib.Seq.{take-append-le, drop-append-le, take-suc, length-take-le, set-out}
+use lib.Seq.{take-suc, length-take-le, set-out}
 use Rattle.basics.specs.Written.{written, writtenAt, WrittenFits, WrittenLength, WrittenJoined}
 
 pub written-fits : WrittenFits
@@ -90,7 +90,7 @@ front-written (o ∷ old) [] (suc count) l m = absurd (omega arith)
 front-written (o ∷ old) (n ∷ new) (suc count) l m =
     ap (λ (r : List ℕ). n ∷ r) (front-written old new count (le-of-suc-le-suc l) (le-of-suc-le-suc m))
 
--- and so is every part that ends there.
+-- and each part that ends within both is that part of the new.
 pub part-written : (old new : List ℕ) (from count : ℕ) → from + count ≤ length new → from + count ≤ length old
     → take count (drop from (written old new)) ≡ take count (drop from new)
 unfolding written

@@ -2,11 +2,12 @@
 -- for Figure 1, where these are "the same K" and equality: that is `Demanded` (Figure1.antt). The promise holds for
 -- every test that decides a reflexive and transitive relation. Proved in proofs/Demands.antt. Assumes nothing.
 --
--- The entry points are `check_record` and `check_exchange`; `record_line` and `exchange_line` of `report`, which write
--- a check's line; and `wethrynda_check_record` and `wethrynda_check_exchange` of `ffi`, which give C a check's answer
--- as one number (no two answers have the same: `CodeTells`, `ExchangeCodeTells`). "No entry point leaves a test to its
--- caller": no `pub fn` has a `requires`, and the gate looks; what follows is for every file and every list. All other
--- public functions are parts: they answer for every input, and make only their own tests.
+-- The entry points of the two checks are `check_record` and `check_exchange`; `record_line` and `exchange_line` of
+-- `report`, which write a check's line; and `wethrynda_check_record` and `wethrynda_check_exchange` of `ffi`, which give
+-- C a check's answer as one number (no two answers have the same: `CodeTells`, `ExchangeCodeTells`). "No entry point
+-- leaves a test to its caller": no `pub fn` has a `requires`, and the gate looks; what follows is for every file and
+-- every list. Those that 02 added make every test too (crate `requests`); all other public functions are parts: they
+-- answer for every input, and make only their own tests.
 use Prim.Native.Nat.{ℕ}
 use mathlib.Core.Bool.{Bool}
 use mathlib.Core.Path.{_≡_}

@@ -1,14 +1,14 @@
 -- The hypotheses that slots show once one more is held, or the statements. Assumes nothing.
 use Prim.Native.Nat.{ℕ, zero, suc, _<_}
 use native.Mathlib.Omega.{arith}
-use mathlib.Core.Bool.{Bool, true, false}
+use mathlib.Core.Bool.{false}
 use mathlib.Core.Path.{_≡_, refl, sym, _∙_}
 use mathlib.Core.List.{List, [], _∷_, _++_, append-nil}
 use lib.ListN.{getD, replicate}
 use lib.Seq.{append-snoc}
 use lib.Dec.{ltb}
-use Rattle.basics.specs.Choice.{both}
 use Rattle.basics.specs.Membership.{holds}
+use Rattle.basics.proofs.Choice.{both-none}
 use Rattle.basics.proofs.Membership.{holds-last, holds-append}
 use Rattle.hypotheses.specs.Slots.{half, shown, heldOne, countOne, heldAll, countAll}
 use Rattle.hypotheses.specs.Trail.{Live}
@@ -51,9 +51,5 @@ zeros zero i = refl
 zeros (suc k) zero = refl
 zeros (suc k) (suc i) = zeros k i
 
-none-of : (t : Bool) → both t false ≡ false
-none-of true = refl
-none-of false = refl
-
 pub shown-none : (k i : ℕ) → holds (shown (replicate k 0)) i ≡ false
-shown-none k i = sym (shows-shown (replicate k 0) i) ∙ rw (zeros k i) (none-of (ltb i (half (replicate k 0))))
+shown-none k i = sym (shows-shown (replicate k 0) i) ∙ rw (zeros k i) (both-none (ltb i (half (replicate k 0))))

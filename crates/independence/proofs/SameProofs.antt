@@ -62,7 +62,7 @@ module _ (R : Relation) (K : Principal) where
       new : A ≡ B → Kept (B ∷ Δ) A
       new e = inr (subst (NoneIn given) (sym e) clear, List·Memᴰ·head e)
 
-  -- ---- the same steps, at every depth
+  -- ---- the same steps, at every depth, and nothing opened that K says
 
   record Moved {Γ : List Proposition} {γ : Judgment} (Δ : List Proposition) (D : Derivation R Γ γ) : Type 0 where
     derivation : Derivation R Δ γ

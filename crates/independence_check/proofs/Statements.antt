@@ -2,13 +2,12 @@
 use Prim.Native.Nat.{ℕ, _+_, _≤_, _<_}
 use native.Mathlib.Numerals.{add-one}
 use mathlib.Core.Bool.{Bool, true, false, not, _||_}
-use mathlib.Core.Path.{_≡_, refl, sym, ap, ap₂, _∙_}
-use mathlib.Core.Logic.{inr}
+use mathlib.Core.Path.{_≡_, sym, ap, ap₂, _∙_}
 use mathlib.Core.List.{List, _∷_}
 use lib.ListN.{length, getD, take, drop, drop-of-length-le}
 use lib.Seq.{drop-cons}
 use Rattle.basics.specs.Choice.{both}
-use Rattle.basics.proofs.Choice.{both-false}
+use Rattle.basics.proofs.Choice.{both-none}
 use Rattle.logic.specs.Proposition.{Proposition}
 use Rattle.logic.specs.Sides.{proving, given}
 use Rattle.table.specs.declared.entry.Entry.{Entry}
@@ -33,7 +32,8 @@ module _ (K : ℕ) (es : List Entry) where
   -- What the code asks of one: its mark, and then whether it is K's own.
   module _ (n : ℕ) {m : Bool} (marked : m ≡ provingSays same K given (spell es n)) where
     pub unmarked : m ≡ false → inStatement same K (spell es n) ≡ false
-    unmarked none = both-false (not (isOwn K (spell es n))) _ .1 (inr (sym marked ∙ none))
+    unmarked none =
+        ap (both (not (isOwn K (spell es n)))) (sym marked ∙ none) ∙ both-none (not (isOwn K (spell es n)))
 
     module _ {o : Bool} (owned : o ≡ isOwn K (spell es n)) where
       pub counted : m ≡ true → o ≡ false → inStatement same K (spell es n) ≡ true

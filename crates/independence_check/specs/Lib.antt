@@ -1,3 +1,3 @@
--- What the test whether a principal can matter answers over arrays, and the marks of an entry.
+-- What the test whether a principal can matter answers over arrays, and the marks of a table's formulas.
 pub mod Parts
-pub mod Marks
+pub mod SideMarks

@@ -5,7 +5,7 @@ ghost use Prim.Native.Nat.{_≤_};
 ghost use lib.ListN.{length};
 ghost use Rattle.logic.specs.Sides as Sides;
 ghost use Rattle.table.specs.Tests.{entries};
-ghost use Rattle.independence_check.specs.Marks.{Marked, MarksOf};
+ghost use Rattle.independence_check.specs.SideMarks.{MarkedFor, MarksOf};
 use marks::is_set;
 use steps::speaks::speaks_for;
 use table::entry::Entry;
@@ -54,8 +54,8 @@ pub(crate) fn mark_sides(
 )
     requires { ⌜ length (entries (now heads) (now seconds)) ≤ length (now proving) ⌝ }
     requires { ⌜ length (entries (now heads) (now seconds)) ≤ length (now given) ⌝ }
-    ensures { λ _. ⌜ Marked Sides.proving (k .0) (now (heads .entry)) (now (seconds .entry)) (now (proving .exit)) ⌝ }
-    ensures { λ _. ⌜ Marked Sides.given (k .0) (now (heads .entry)) (now (seconds .entry)) (now (given .exit)) ⌝ }
+    ensures { λ _. ⌜ MarkedFor Sides.proving (k .0) (now (heads .entry)) (now (seconds .entry)) (now (proving .exit)) ⌝ }
+    ensures { λ _. ⌜ MarkedFor Sides.given (k .0) (now (heads .entry)) (now (seconds .entry)) (now (given .exit)) ⌝ }
 {
     let mut i = 0;
     while i < heads.len() && i < seconds.len() {

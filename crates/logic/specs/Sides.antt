@@ -30,7 +30,7 @@ pub data Stands (B : Proposition) (t : Side) : Proposition → Side → Type 0 w
 module _ (_speaks-for_ : Relation) (K : Principal) where
   infix 40 _speaks-for_
   -- A says-formula of anyone for whom K speaks (02, job 14), on the proving side of A, which itself stands on side s.
-  -- With equality for the relation K speaks for himself alone: "no says-formula of K".
+  -- With equality for the relation K speaks for himself alone, and it is a "says-formula of K".
   pub record ProvingSays (s : Side) (A : Proposition) : Type 0 where
     pub by : Principal
     pub what : Proposition

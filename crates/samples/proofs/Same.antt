@@ -10,11 +10,8 @@ use lib.Seq.{take-all, drop-cons}
 use lib.Dec.{eqb}
 use borrow.Author.Tests.{eq-eqb, ne-eqb}
 use Rattle.basics.specs.Choice.{both}
+use Rattle.basics.proofs.Choice.{both-none}
 use Rattle.samples.specs.EndsWith.{same, endsWith}
-
-never : (t : Bool) → both t false ≡ false
-never true = refl
-never false = refl
 
 -- Byte strings of unlike length aren't the same,
 pub same-unlike : (xs ys : List ℕ) → (length xs ≡ length ys → ⊥) → same xs ys ≡ false
@@ -22,7 +19,7 @@ unfolding same
 same-unlike [] [] h = absurd (h refl)
 same-unlike [] (y ∷ ys) h = refl
 same-unlike (x ∷ xs) [] h = refl
-same-unlike (x ∷ xs) (y ∷ ys) h = ap (both (eqb x y)) (same-unlike xs ys (λ e. h (ap suc e))) ∙ never (eqb x y)
+same-unlike (x ∷ xs) (y ∷ ys) h = ap (both (eqb x y)) (same-unlike xs ys (λ e. h (ap suc e))) ∙ both-none (eqb x y)
 
 -- so a name that is shorter than the ending doesn't end with it.
 pub too-short : (name ending : List ℕ) → length name < length ending → endsWith name ending ≡ false

@@ -9,7 +9,7 @@ use borrow.Author.Tests.{eqb-true, eqb-false, lt-ltb, le-ltb}
 use Rattle.basics.specs.Choice.{both}
 use Rattle.basics.specs.Word.{upper, lower}
 use Rattle.basics.specs.Limits.{mostAtoms, mostPrincipals}
-use Rattle.basics.proofs.Choice.{pick-cases}
+use Rattle.basics.proofs.Choice.{both-none, pick-cases}
 use Rattle.table.specs.declared.entry.Entry.{Entry}
 use Rattle.table.specs.declared.entry.Entry.the-variants.{IllFormed}
 use Rattle.table.specs.Entry.{kinds, entry}
@@ -24,10 +24,6 @@ some (suc n) other = omega arith
 below-one : (n : ℕ) (b : Bool) → eqb n 0 ≡ b → ltb n 1 ≡ b
 below-one n true t = lt-ltb n 1 (omega (arith, eqb-true n 0 t))
 below-one n false t = le-ltb n 1 (some n (eqb-false n 0 t))
-
-both-none : (a : Bool) → both a false ≡ false
-both-none true = refl
-both-none false = refl
 
 -- kind by kind, in the order of `kinds`
 by-kind :

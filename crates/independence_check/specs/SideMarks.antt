@@ -14,9 +14,9 @@ use Rattle.table.specs.Spelled.{proposition, spelled}
 use Rattle.steps.specs.Figure1.{same}
 use Rattle.independence.specs.Test.{provingSays}
 
--- The first marks are what holds of the table's formulas, each on this side.
-abbrev pub Marked : Side → ℕ → List ℕ → List ℕ → List Bool → Type 0
-Marked s K heads seconds marks =
+-- The first marks are the test's answers for the table's formulas, each standing on this side.
+abbrev pub MarkedFor : Side → ℕ → List ℕ → List ℕ → List Bool → Type 0
+MarkedFor s K heads seconds marks =
     take (length (entries heads seconds)) marks ≡ map (provingSays same K s) (spelled (entries heads seconds))
 
 -- Where the marks for both sides are those of the formulas made so far, what is found for each side is what holds of
