@@ -1,4 +1,5 @@
--- Membership and inclusion. In order: an order of lists; a member in front; joined lists; a member put in; members by
+-- Membership and inclusion. In order: an order of lists; a member in front; what holds of
+-- each member; joined lists; a member put in; members by
 -- position; the test for membership. Assumes nothing.
 use Prim.Native.Nat.{ℕ, zero, suc, _<_}
 use native.Mathlib.Omega.{arith}
@@ -43,6 +44,16 @@ module _ {A : Type 0} where
   -- a member goes in behind the one in front
   pub exchange : {l m : List A} (a b : A) → l ⊆ a ∷ m → b ∷ l ⊆ a ∷ b ∷ m
   exchange a b s = ⊆-cons second (⊆-trans s (extend a (added b)))
+
+  -- ---- what holds of each member
+
+  pub each-of-none : (P : A → Type 0) (b : A) → b ∈ [] → P b
+  each-of-none P b i = absurd (List·Memᴰ·not-nil i)
+
+  pub each-of-more : (P : A → Type 0) {a : A} {l : List A}
+      → P a → ((b : A) → b ∈ l → P b) → (b : A) → b ∈ a ∷ l → P b
+  each-of-more P p each b (List·Memᴰ·head e) = subst P (sym e) p
+  each-of-more P p each b (List·Memᴰ·tail i) = each b i
 
   -- ---- joined lists
 

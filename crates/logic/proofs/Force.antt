@@ -1,9 +1,8 @@
 -- Demand 3's theorem: equal in force exactly when each statement of either list has a proof from the other. By identity
 -- one way, by a cut at each statement the other way. Assumes nothing.
-use mathlib.Core.Path.{sym, subst}
 use mathlib.Core.Logic.{⊎-elim}
-use mathlib.Core.List.{List, [], _∷_, _++_, List·Memᴰ·head, List·Memᴰ·tail, List·Memᴰ·not-nil, List·Memᴰ·append-cases}
-use Rattle.basics.proofs.Membership.{first, added, ⊆-left, ⊆-right}
+use mathlib.Core.List.{List, [], _∷_, _++_, List·Memᴰ·append-cases}
+use Rattle.basics.proofs.Membership.{first, added, ⊆-left, ⊆-right, each-of-none, each-of-more}
 use Rattle.logic.specs.Proposition.{Proposition}
 use Rattle.logic.specs.Judgment.{Judgment}
 use Rattle.logic.specs.Principals.{Relation, Reflexive, Transitive}
@@ -16,11 +15,10 @@ use Rattle.logic.proofs.Cut.{cut}
 -- a list of proofs, a statement each
 module _ {R : Relation} {Δ : List Proposition} where
   pub each-nil : EachHasProof R [] Δ
-  each-nil A i = absurd (List·Memᴰ·not-nil i)
+  each-nil = each-of-none (HasProof R Δ)
 
   pub each-cons : {A : Proposition} {Γ : List Proposition} → HasProof R Δ A → EachHasProof R Γ Δ → EachHasProof R (A ∷ Γ) Δ
-  each-cons D proofs B (List·Memᴰ·head e) = subst (HasProof R Δ) (sym e) D
-  each-cons D proofs B (List·Memᴰ·tail i) = proofs B i
+  each-cons = each-of-more (HasProof R Δ)
 
 module _ {R : Relation} (reflexive : Reflexive R) (transitive : Transitive R) where
   -- hypotheses that the others prove may go

@@ -2,8 +2,8 @@
 -- by somebody for whom the signer speaks. So where the right rules of a goal end at an atom, which is no hypothesis, or
 -- at false, which has no right rule, a derivation passes a says left: what follows from that, follows (`from-signed`).
 -- Where nothing speaks for anybody on the way, there is no derivation. Assumes nothing.
-use mathlib.Core.Path.{sym, subst}
-use mathlib.Core.List.{List, [], _∷_, List·Memᴰ·head, List·Memᴰ·tail, List·Memᴰ·not-nil}
+use mathlib.Core.List.{List, [], _∷_}
+use Rattle.basics.proofs.Membership.{each-of-none, each-of-more}
 use Rattle.logic.specs.Proposition.{Proposition, Principal, atom, false, _implies_, _and_, _or_, _says_}
 use Rattle.logic.specs.Judgment.{Judgment, truth, _affirms_}
 use Rattle.logic.specs.Principals.{Relation}
@@ -13,11 +13,10 @@ use Rattle.logic.specs.Signed.{SignedBy, AllSignedBy}
 -- ---- lists of signed statements
 
 pub none-signed : (P : Principal → Type 0) → AllSignedBy P []
-none-signed P A i = absurd (List·Memᴰ·not-nil i)
+none-signed P = each-of-none (SignedBy P)
 
 pub one-more-signed : (P : Principal → Type 0) {A : Proposition} {Γ : List Proposition} → SignedBy P A → AllSignedBy P Γ → AllSignedBy P (A ∷ Γ)
-one-more-signed P h s B (List·Memᴰ·head e) = subst (SignedBy P) (sym e) h
-one-more-signed P h s B (List·Memᴰ·tail i) = s B i
+one-more-signed P = each-of-more (SignedBy P)
 
 pub one-signed : (P : Principal → Type 0) {K : Principal} (A : Proposition) → P K → AllSignedBy P (K says A ∷ [])
 one-signed P A p = one-more-signed P p (none-signed P)

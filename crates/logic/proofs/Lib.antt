@@ -5,6 +5,8 @@ pub mod Depth
 pub mod Structural
 pub mod OneStep
 pub mod FromSigned
+pub mod SaysAsTruth
+pub mod SignedAlone
 pub mod SaysLeft
 pub mod Sides
 pub mod Identity

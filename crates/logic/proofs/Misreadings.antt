@@ -8,7 +8,7 @@ use Rattle.logic.proofs.FromSigned.{one-signed, from-signed}
 use Rattle.logic.proofs.Figure1.{figure1}
 
 pub signed-give-no-atom : SignedGiveNoAtom
-signed-give-no-atom Γ s a D = from-signed Same Anybody ⊥ D s tt
+signed-give-no-atom Γ s = figure1 .signed-alone Γ s .no-atom
 
 pub says-gives-no-atom : SaysGivesNoAtom
 says-gives-no-atom K a = signed-give-no-atom _ (one-signed Anybody _ tt) a
@@ -24,7 +24,7 @@ says-false-serves-no-other K L differ a D =
     from-signed Same (OtherThan L) ⊥ D (one-signed (OtherThan L) _ differ) ((λ M differs. differs), tt)
 
 pub signed-give-no-false : SignedGiveNoFalse
-signed-give-no-false Γ s D = from-signed Same Anybody ⊥ D s tt
+signed-give-no-false Γ s = figure1 .signed-alone Γ s .no-false
 
 pub says-false-gives-no-false : SaysFalseGivesNoFalse
 says-false-gives-no-false K = signed-give-no-false _ (one-signed Anybody _ tt)

@@ -7,6 +7,7 @@ use Rattle.logic.proofs.SaysLeft.{says-serves}
 use Rattle.logic.proofs.Identity.{identity}
 use Rattle.logic.proofs.Cut.{cut, affirmation-cut}
 use Rattle.logic.proofs.Force.{force-by-statements, force-joined, release-kept, any-release-kept}
+use Rattle.logic.proofs.SignedAlone.{signed-alone}
 
 pub for-every-relation : ForEveryRelation
 for-every-relation R reflexive transitive = record {
@@ -23,4 +24,5 @@ for-every-relation R reflexive transitive = record {
   force-joined = force-joined reflexive transitive;
   release-kept = release-kept reflexive transitive;
   any-release-kept = any-release-kept reflexive transitive;
+  signed-alone = signed-alone R;
 }

@@ -13,6 +13,7 @@ pub mod SaysLeft
 pub mod Sides
 pub mod Cut
 pub mod Force
+pub mod SignedAlone
 pub mod Promises
 pub mod Figure1
 pub mod Samples

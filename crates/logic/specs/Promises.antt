@@ -7,6 +7,7 @@ use Rattle.logic.specs.OneStep.{OneStep}
 use Rattle.logic.specs.SaysLeft.{SaysServes}
 use Rattle.logic.specs.Cut.{Identity, Cut, AffirmationCut}
 use Rattle.logic.specs.Force.{ForceByStatements, ForceJoined, ReleaseKept, AnyReleaseKept}
+use Rattle.logic.specs.SignedAlone.{SignedAlone}
 
 pub record Promises (R : Relation) : Type 0 where
   pub depth-of-steps : DepthOfSteps R
@@ -22,6 +23,7 @@ pub record Promises (R : Relation) : Type 0 where
   pub force-joined : ForceJoined R
   pub release-kept : ReleaseKept R
   pub any-release-kept : AnyReleaseKept R
+  pub signed-alone : SignedAlone R
 
 abbrev pub ForEveryRelation : Type 1
 ForEveryRelation = (R : Relation) → Reflexive R → Transitive R → Promises R

@@ -2,7 +2,7 @@
 use Rattle.logic.specs.Figure1.{Same}
 use Rattle.steps.specs.Figure1.{same}
 use Rattle.steps.proofs.Figure1.{same-lawful}
-use Rattle.record.specs.Figure1.{GrantedExactly, RefusedExactly, EightExactly, KeepsExactly, AnswersSmall, LongerFile, StatementsAreASet, StatedTwice, SignersCarry}
+use Rattle.record.specs.Figure1.{GrantedExactly, RefusedExactly, EightExactly, KeepsExactly, AnswersSmall, LongerFile, StatementsAreASet, StatedTwice, SignersCarry, PapersAlone}
 use Rattle.record.proofs.Granted as Granted
 use Rattle.record.proofs.Reasons as Reasons
 use Rattle.record.proofs.Eight as Eight
@@ -11,6 +11,7 @@ use Rattle.record.proofs.Small as Small
 use Rattle.record.proofs.Longer as Longer
 use Rattle.record.proofs.SameSet as SameSet
 use Rattle.record.proofs.Carries as Carries
+use Rattle.record.proofs.Papers as Papers
 
 pub granted-exactly : GrantedExactly
 granted-exactly = Granted.granted-exactly same Same (same-lawful .decides)
@@ -38,3 +39,6 @@ stated-twice = SameSet.stated-twice same
 
 pub signers-carry : SignersCarry
 signers-carry = Carries.signers-carry same Same (same-lawful .decides)
+
+pub papers-alone : PapersAlone
+papers-alone = Papers.papers-alone same Same (same-lawful .decides)

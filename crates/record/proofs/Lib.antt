@@ -6,6 +6,7 @@ pub mod Answered
 pub mod IsProof
 pub mod Carries
 pub mod Granted
+pub mod Papers
 pub mod Reasons
 pub mod Kept
 pub mod Eight

@@ -13,6 +13,7 @@ use Rattle.record.specs.Proof as AnyProof
 use Rattle.record.specs.Carries as AnyCarries
 use Rattle.record.specs.Reasons as AnyReasons
 use Rattle.record.specs.Promises as Promises
+use Rattle.record.specs.Papers as AnyPapers
 
 abbrev pub stepVerdict : List ℕ → WalkVerdict
 stepVerdict file = Any.stepVerdict same file
@@ -62,3 +63,8 @@ StatedTwice = Promises.StatedTwice same
 
 abbrev pub SignersCarry : Type 0
 SignersCarry = AnyCarries.SignersCarry Same
+
+-- ---- papers alone (02, job 6)
+
+abbrev pub PapersAlone : Type 0
+PapersAlone = AnyPapers.PapersAlone same Same

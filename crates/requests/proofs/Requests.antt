@@ -13,11 +13,13 @@ use Rattle.independence.proofs.StepsUnread.{steps-unread}
 use Rattle.independence.proofs.SameWords.{same-words, never-signs}
 use Rattle.independence.proofs.Samples as Asked
 use Rattle.logic.proofs.Sides.{sides-are}
+use Rattle.logic.proofs.SignedAlone.{signed-alone, signed-is-says, one-order-more, or-in-a-paper}
+use Rattle.record.proofs.Papers.{papers-alone}
 use Rattle.requests.specs.Requests.{ForEveryRelation}
 use Rattle.requests.proofs.Order.{signers-rise, release-grants, order-not-free, one-possible-line, count-stays}
 use Rattle.requests.proofs.Sentences.{release-written, else-refused}
 use Rattle.requests.proofs.WhoCarried.{eight-counts, eight-of-sentences, eight-stands}
-use Rattle.requests.proofs.Samples.{in-order, only-who-carried}
+use Rattle.requests.proofs.Samples.{in-order, only-who-carried, from-papers}
 
 pub for-every-relation : ForEveryRelation
 for-every-relation speaks R lawful = record {
@@ -73,4 +75,10 @@ for-every-relation speaks R lawful = record {
   refused-in-order = refused-exactly speaks;
   of-a = Asked.of-a;
   order = Asked.order;
+  signed-alone = signed-alone R;
+  signed-is-says = signed-is-says;
+  one-order-more = one-order-more (lawful .reflexive);
+  or-in-a-paper = or-in-a-paper R;
+  papers-alone = papers-alone speaks R (lawful .decides);
+  from-papers = from-papers;
 }

@@ -16,7 +16,7 @@ use Rattle.signers.specs.Signers.{principals, used}
 use Rattle.record.specs.Answer.{recordAnswer}
 use Rattle.line.specs.RefusedLine.{refusedLine}
 use Rattle.line.specs.RecordLine.{listed, recordLine}
-use Rattle.requests.specs.Samples.{InOrder, OnlyWhoCarried}
+use Rattle.requests.specs.Samples.{InOrder, OnlyWhoCarried, FromPapers}
 
 pub in-order : InOrder
 unfolding listed recordLine refusedLine ascii decimal digits recordAnswer fileWords fileOf firstRefusal wrongEntry
@@ -27,3 +27,8 @@ pub only-who-carried : OnlyWhoCarried
 unfolding listed recordLine refusedLine ascii decimal digits recordAnswer fileWords fileOf firstRefusal wrongEntry
     repeatedEntry first into principals used namedNumbers isNaming run walk step opens holds entries entry
 only-who-carried = refl
+
+pub from-papers : FromPapers
+unfolding listed recordLine refusedLine ascii decimal digits recordAnswer fileWords fileOf firstRefusal wrongEntry
+    repeatedEntry first into principals used namedNumbers isNaming run walk step opens holds entries entry
+from-papers = refl

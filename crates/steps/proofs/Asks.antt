@@ -1,11 +1,11 @@
 -- An obligation asks for a judgment from hypotheses: all of them propositions that the table has, under their numbers.
 -- An obligation in the table asks for what it spells out, and its premises ask for what a rule adds. Assumes nothing.
 use Prim.Native.Nat.{ℕ, _<_}
-use mathlib.Core.Path.{_≡_, refl, sym, ap, subst}
-use mathlib.Core.List.{List, [], _∷_, _++_, List·Memᴰ·head, List·Memᴰ·tail, Memᴰ·of-map}
+use mathlib.Core.Path.{_≡_, refl, sym, ap}
+use mathlib.Core.List.{List, [], _∷_, _++_, Memᴰ·of-map}
 use lib.ListN.{length}
 use Rattle.basics.specs.Membership.{_∈_}
-use Rattle.basics.proofs.Membership.{first, second, ⊆-left, ⊆-right}
+use Rattle.basics.proofs.Membership.{first, second, ⊆-left, ⊆-right, each-of-more}
 use Rattle.logic.specs.Proposition.{Proposition}
 use Rattle.logic.specs.Judgment.{Judgment, truth, _affirms_}
 use Rattle.table.specs.declared.entry.Entry.{Entry}
@@ -77,8 +77,7 @@ module _ {es : List Entry} where
   wider ms all A m = let h = all A m in record { has-it = h .has-it; member = ⊆-left ms _ (h .member) }
 
   more : {hs : List ℕ} {A : Proposition} {Γ : List Proposition} → Has es A → number es A ∈ hs → AllHeld es hs Γ → AllHeld es hs (A ∷ Γ)
-  more {hs} a i all B (List·Memᴰ·head e) = subst (Held es hs) (sym e) record { has-it = a; member = i }
-  more a i all B (List·Memᴰ·tail m) = all B m
+  more {hs} a i all = each-of-more (Held es hs) record { has-it = a; member = i } all
 
   module _ {o : Obligation} {Γ : List Proposition} {γ : Judgment} (q : Asks es o Γ γ) {δ : Judgment} (d : Has es (subject δ)) where
     -- a premise adds nothing, one proposition or two

@@ -1,0 +1,40 @@
+-- A granted record of papers alone releases no more than such papers give (specs/Papers.antt): its words are a
+-- derivation from them, and the last rule of that is the right rule of the goal. Assumes nothing.
+use Prim.Native.Nat.{ℕ}
+use mathlib.Core.Bool.{Bool}
+use mathlib.Core.Path.{_≡_, subst, ap, _∙_}
+use mathlib.Core.Logic.{_⊎_, inl, inr, ⊎-elim}
+use mathlib.Core.List.{List}
+use Rattle.basics.specs.Word.{word}
+use Rattle.logic.specs.Proposition.{Proposition, _or_}
+use Rattle.logic.specs.Principals.{Relation, Decides}
+use Rattle.logic.specs.Force.{HasProof}
+use Rattle.logic.proofs.SignedAlone.{by-right-rule, signed-alone}
+use Rattle.table.specs.Number.{number}
+use Rattle.steps.specs.Words as Derived
+use Rattle.record.specs.Layout.{steps, table}
+use Rattle.record.specs.Proof.{statedBy}
+use Rattle.record.specs.Papers.{OnlyPapers, Begins, PapersAlone}
+use Rattle.record.proofs.Granted.{granted-exactly}
+
+module _ (R : Relation) (file : List ℕ) where
+  -- a proof of C whose words are the steps
+  abbrev Proves : Proposition → Type 0
+  Proves C = (D : HasProof R (statedBy file) C) × (steps file ≡ Derived.words (number (table file)) D)
+
+  begins : OnlyPapers file → (A B : Proposition) → Proves (A or B) → Begins R file (word 7 0) A ⊎ Begins R file (word 8 0) B
+  begins papers A B (D, words) =
+      ⊎-elim
+      (λ (E, ends). inl record { derivation = E; words = words ∙ ap (Derived.words (number (table file))) ends })
+      (λ (E, ends). inr record { derivation = E; words = words ∙ ap (Derived.words (number (table file))) ends })
+      (by-right-rule papers D)
+
+pub papers-alone : (speaks : ℕ → ℕ → Bool) (R : Relation) → Decides speaks R → PapersAlone speaks R
+papers-alone speaks R decides file room count granted papers =
+    let proof = granted-exactly speaks R decides file room count .0 granted .is-proof in
+    let give = signed-alone R (statedBy file) papers in
+    record {
+      no-atom = λ a is. give .no-atom a (subst (HasProof R (statedBy file)) is (proof .derivation));
+      no-false = λ is. give .no-false (subst (HasProof R (statedBy file)) is (proof .derivation));
+      or-by-a-side = λ A B is. begins R file papers A B (subst (Proves R file) is (proof .derivation, proof .words));
+    }
