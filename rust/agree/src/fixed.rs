@@ -1,8 +1,8 @@
 //! The fixed set of the tests: small exhaustive pieces, files with doubled formulas, all small
 //! tables in which 7 says something, a run of seeded files, lists of papers, larger exhaustive
-//! pieces, files with crowded tables, and the largest files.
+//! pieces, records of papers alone, files with crowded tables, and the largest files.
 use crate::crowded::{crowded, REPEATS, SIZES};
-use crate::given::{given, Given};
+use crate::given::{given, of_papers, Given};
 use crate::largest::largest;
 use crate::parts::{Kind, Parts};
 use crate::raw::LIMITS;
@@ -25,6 +25,9 @@ pub const SEED: u64 = 2006;
 /// between 16 and 17 times, and the numbers of 32, 64 and 128 bits.
 const DOUBLED: [u16; 20] =
     [1, 2, 3, 8, 15, 16, 17, 18, 28, 29, 31, 32, 33, 60, 61, 63, 64, 65, 128, 4000];
+
+/// How many records of papers alone the set has, mostly.
+const OF_PAPERS: u64 = 20_000;
 
 /// How many files with crowded tables the set has, before the largest, which are its last.
 pub const CROWDED: u64 = 24;
@@ -60,6 +63,8 @@ impl Fixed {
             pieces.extend((0..words.len()).map(|at| any_word(words, kind, at)));
         }
         pieces.extend(all_short_proofs());
+        let of_papers = |number| of_papers(&mut Random::of(6, number));
+        pieces.push(Piece { count: OF_PAPERS, make: Box::new(of_papers) });
         pieces.push(Piece { count: CROWDED, make: Box::new(crowded_files) });
         pieces.push(Piece { count: LARGEST, make: Box::new(largest_files) });
         Fixed(pieces)

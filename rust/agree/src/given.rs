@@ -17,8 +17,8 @@ pub struct Given {
 }
 
 /// What a file is made as, in the order of the table that is printed.
-pub const FAMILIES: [&str; 8] =
-    ["fixed", "right", "slip", "near miss", "noise", "deep", "crowded", "largest"];
+pub const FAMILIES: [&str; 9] =
+    ["fixed", "right", "slip", "near miss", "noise", "deep", "papers", "crowded", "largest"];
 
 /// File `number` of a seed: the same on every machine and in every thread.
 pub fn given(seed: u64, number: u64) -> Given {
@@ -44,6 +44,16 @@ pub fn given(seed: u64, number: u64) -> Given {
             let parts = right(random, kind);
             near_miss(random, "near miss", parts)
         }
+    }
+}
+
+/// A record of papers alone, or nearly.
+pub fn of_papers(random: &mut Random) -> Given {
+    let parts = records::of_papers(random);
+    if random.below(3) > 0 {
+        of_parts(random, "papers", &parts)
+    } else {
+        near_miss(random, "papers", parts)
     }
 }
 

@@ -10,7 +10,8 @@
 //! - `misses`, `raw`, `noise`: near misses and noise.
 //! - `given`: which file a seed and a number make; `fixed`: the fixed set of the tests.
 //! - `compare`, `texts`, `independence`: the comparison, that of texts, and whether a principal can
-//!   matter; `promise`: what independent promises. `tally`, `run`: the counts, the threads.
+//!   matter; `promise`: what independent promises; `papers`: what papers alone can't give. `tally`,
+//!   `run`: the counts, the threads.
 #![forbid(unsafe_code)]
 
 pub mod compare;
@@ -25,6 +26,7 @@ pub mod independence;
 pub mod largest;
 pub mod misses;
 pub mod noise;
+pub mod papers;
 pub mod parts;
 pub mod promise;
 pub mod random_table;

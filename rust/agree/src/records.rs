@@ -145,6 +145,54 @@ pub fn contracted(random: &mut Random) -> Parts {
     dressed(random, table, statements, goal, steps)
 }
 
+/// A record of papers alone: some principal says all that a proof needs. Mostly he then says its goal
+/// too, which is right, and so is an or around that. Else the papers are opened for the goal itself,
+/// as if what he says were true; with no paper that is right as well.
+pub fn of_papers(random: &mut Random) -> Parts {
+    let mut table = RandomTable::default();
+    let levels = random.below(3);
+    let goal = table.formula(random, levels);
+    let steps = random.between(1, 12).max(table.identity_steps(goal));
+    let mut grower = Grower::new(random, &mut table, 8);
+    grower.grow(Judgment::Truth(goal), steps, 1);
+    let (needed, proof) = (grower.statements, grower.steps);
+    let principal = random.name();
+    let mut papers: Vec<u16> =
+        needed.into_iter().map(|formula| table.number(Says(principal, formula))).collect();
+    let opened: Vec<u16> = papers.iter().map(|paper| SAYS_LEFT + paper).collect();
+    let (goal, steps) = if random.one_in(3) {
+        (goal, [opened, proof].concat())
+    } else {
+        let said = table.number(Says(principal, goal));
+        in_ors(random, &mut table, said, [&[SAYS_RIGHT], &opened[..], &[AFFIRM], &proof].concat())
+    };
+    while random.one_in(3) {
+        let said = table.formula(random, 1);
+        papers.push(table.number(Says(random.name(), said)));
+    }
+    random.shuffle(&mut papers);
+    Parts::record(&table, papers, goal, steps).in_other_order(&table, random)
+}
+
+/// What has this proof, or an or of which it is a side, or one around that, and so on.
+fn in_ors(
+    random: &mut Random,
+    table: &mut RandomTable,
+    mut goal: u16,
+    mut steps: Vec<u16>,
+) -> (u16, Vec<u16>) {
+    while random.one_in(2) {
+        let other = table.formula(random, 1);
+        let (around, right) = match random.one_in(2) {
+            true => (Or(goal, other), OR_RIGHT_FIRST),
+            false => (Or(other, goal), OR_RIGHT_SECOND),
+        };
+        goal = table.number(around);
+        steps.insert(0, right);
+    }
+    (goal, steps)
+}
+
 /// "not not (A or not A)" has no proof without its hypothesis twice.
 pub fn needs_twice(random: &mut Random) -> Parts {
     let mut table = RandomTable::default();

@@ -3,7 +3,7 @@
 use crate::compare::{compared, Disagreement};
 use crate::given::Given;
 use crate::tally::Tally;
-use crate::{independence, texts};
+use crate::{independence, papers, texts};
 use std::sync::atomic::{AtomicU64, Ordering::SeqCst};
 use std::sync::Mutex;
 use std::thread;
@@ -37,13 +37,15 @@ pub fn run(
                 let all = compared(&given).and_then(|answers| {
                     let texts = texts::compared(&given, &answers)?;
                     let independence = independence::compared(&given, &answers)?;
-                    Ok((answers, texts, independence))
+                    let papers = papers::compared(&given, &answers)?;
+                    Ok((answers, texts, independence, papers))
                 });
                 match all {
-                    Ok((answers, texts, independence)) => {
+                    Ok((answers, texts, independence, papers)) => {
                         tally.count(&given, &answers);
                         tally.texts.add(&texts);
                         tally.independence.add(&independence);
+                        tally.papers.add(&papers);
                     }
                     Err(disagreement) => {
                         end.fetch_min(number, SeqCst);

@@ -2,6 +2,7 @@
 use crate::compare::Answer;
 use crate::given::{Given, FAMILIES};
 use crate::independence;
+use crate::papers;
 use crate::parts::{Kind, Parts};
 use crate::texts::{self, TOO_LONG};
 use builder::steps::{code, RULES};
@@ -31,6 +32,8 @@ pub struct Tally {
     pub texts: texts::Counts,
     /// Calls that ask about a principal.
     pub independence: independence::Counts,
+    /// Records of papers alone.
+    pub papers: papers::Counts,
 }
 
 impl Tally {
@@ -81,6 +84,7 @@ impl Tally {
         pairs(&mut self.rules, &other.rules);
         self.texts.add(&other.texts);
         self.independence.add(&other.independence);
+        self.papers.add(&other.papers);
     }
 
     /// The grants that have to do with who signs.
@@ -121,6 +125,9 @@ impl Tally {
         }
         for (what, count) in self.independence.promise.counts() {
             expect(count, format!("independent and {what}"));
+        }
+        for (what, count) in self.papers.counts() {
+            expect(count, format!("papers alone, {what}"));
         }
         for (code, name) in RULES.iter().enumerate() {
             expect(
@@ -173,6 +180,10 @@ impl fmt::Display for Tally {
         }
         writeln!(f, "\n{:<28} {:>12}", "independent and still", "records")?;
         for (what, count) in self.independence.promise.counts() {
+            writeln!(f, "{what:<28} {count:>12}")?;
+        }
+        writeln!(f, "\n{:<28} {:>12}", "papers alone", "records")?;
+        for (what, count) in self.papers.counts() {
             writeln!(f, "{what:<28} {count:>12}")?;
         }
         writeln!(f, "\n{:<28} {:>12}", "rule, granted and equal", "steps")?;

@@ -2,9 +2,15 @@
 use agree::compare::{compared, Answer};
 use agree::fixed::{Fixed, CROWDED, FEW, LARGEST, SEED};
 use agree::given::given;
-use agree::parts::Kind;
+use agree::papers::{asked, can_be_had, Asked};
+use agree::parts::{Kind, Parts};
 use agree::run::{run, STACK};
 use agree::texts::TOO_LONG;
+use builder::layout;
+use builder::samples::{A, T};
+use builder::steps::{
+    AFFIRM, INIT, OR_LEFT, OR_RIGHT_FIRST, OR_RIGHT_SECOND, SAYS_LEFT, SAYS_RIGHT,
+};
 use std::path::Path;
 use std::{fs, thread};
 
@@ -81,6 +87,32 @@ fn a_seed_makes_the_same_files_everywhere() {
         }
     }
     assert_eq!(format!("{sum:016x}"), "5340f17816c86775");
+}
+
+/// What counts as papers alone, and what they can't give: else the look at each grant would find
+/// nothing.
+#[test]
+fn what_papers_alone_are_asked_for_is_told() {
+    let over_t = |statements: &[u16], goal, steps: &[u16]| {
+        asked(&Parts::record(&T, statements.to_vec(), goal, steps.to_vec()))
+    };
+    // 01's A and C, the empty list, and an order beside the papers
+    assert_eq!(asked(&Parts::of_record(&layout::bytes(&A))), Some(Asked::Else));
+    assert_eq!(over_t(&[1], 0, &[SAYS_LEFT + 1]), Some(Asked::Atom));
+    assert_eq!(over_t(&[], 0, &[INIT]), Some(Asked::Atom));
+    assert_eq!(over_t(&[1, 0, 2], 0, &[INIT]), None);
+    // false, what 7 says of it, and an or of both
+    let table = [(4096, 0), (5 * 4096 + 7, 0), (4 * 4096, 1)];
+    let of_papers = |goal, first| asked(&Parts::record(&table, vec![1], goal, vec![first]));
+    assert_eq!(of_papers(0, SAYS_LEFT + 1), Some(Asked::False));
+    assert_eq!(of_papers(1, SAYS_RIGHT), Some(Asked::Else));
+    assert_eq!(of_papers(2, OR_RIGHT_FIRST), Some(Asked::OrByFirst));
+    assert_eq!(of_papers(2, OR_RIGHT_SECOND), Some(Asked::OrBySecond));
+    assert_eq!(of_papers(2, OR_LEFT + 2), Some(Asked::Or));
+    assert_eq!(of_papers(2, AFFIRM), Some(Asked::Or));
+    let refused = [Asked::Atom, Asked::False, Asked::Or].map(can_be_had);
+    let right = [Asked::OrByFirst, Asked::OrBySecond, Asked::Else].map(can_be_had);
+    assert_eq!((refused, right), ([false; 3], [true; 3]));
 }
 
 /// "5. An entry has the head and second of an earlier one (place: the first such later entry": the

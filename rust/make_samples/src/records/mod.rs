@@ -4,6 +4,7 @@ mod errors;
 mod files;
 mod in_sentences;
 mod independence;
+mod papers;
 mod says;
 
 use crate::record::Record;
@@ -27,6 +28,7 @@ pub fn sections() -> Vec<Section<Record>> {
         says::signers(),
         in_sentences::in_sentences(),
         independence::independence(),
+        papers::papers_alone(),
         three_halls::releases(),
     ]
 }

@@ -1,0 +1,102 @@
+//! What papers alone can't give (02): "no atom and not false has a proof of any size, and an or has
+//! a proof only if one of its sides has". So no record of papers alone is granted with an atom or
+//! false as its goal, and a granted or begins with one of its right rules.
+use crate::compare::{Answer, Disagreement};
+use crate::given::Given;
+use crate::parts::{Kind, Parts};
+use builder::steps::{rule, OR_RIGHT_FIRST, OR_RIGHT_SECOND};
+use builder::table::Entry::{self, Atom, False, Or};
+
+/// What a record asks for by its goal and its first step.
+#[derive(Clone, Copy, Debug, PartialEq, Eq)]
+pub enum Asked {
+    Atom,
+    False,
+    /// An or that doesn't begin with a right rule.
+    Or,
+    OrByFirst,
+    OrBySecond,
+    Else,
+}
+
+/// What a record of papers alone asks for; none where some statement is no paper. The numbers of the
+/// statements and of the goal are in the table, and there is a step.
+pub fn asked(parts: &Parts) -> Option<Asked> {
+    let are_papers = parts.first.iter().all(|&statement| parts.speaker(statement).is_some());
+    are_papers.then(|| match Entry::of(parts.table[usize::from(parts.goal)]) {
+        Some(Atom(_)) => Asked::Atom,
+        Some(False) => Asked::False,
+        Some(Or(..)) => match rule(parts.steps[0]) {
+            OR_RIGHT_FIRST => Asked::OrByFirst,
+            OR_RIGHT_SECOND => Asked::OrBySecond,
+            _ => Asked::Or,
+        },
+        _ => Asked::Else,
+    })
+}
+
+/// Whether papers alone can give this.
+pub fn can_be_had(asked: Asked) -> bool {
+    !matches!(asked, Asked::Atom | Asked::False | Asked::Or)
+}
+
+/// Looks at a file for which both checks gave these answers. 8 is for a proof, too.
+pub fn compared(given: &Given, answers: &[(Kind, Answer)]) -> Result<Counts, Box<Disagreement>> {
+    let mut counts = Counts::default();
+    for (_, answer) in answers.iter().filter(|(kind, _)| *kind == Kind::Record) {
+        let is_proof = match answer {
+            Answer::Refused { number: 1..=7, .. } => continue,
+            Answer::Refused { number, .. } => *number == 8,
+            _ => true,
+        };
+        let parts = Parts::of_record(&given.file);
+        let Some(asked) = asked(&parts) else { continue };
+        if is_proof && !can_be_had(asked) {
+            let call = format!("papers alone and {asked:?} as goal");
+            return Err(Disagreement::new(given, call, [answer, answer]));
+        }
+        counts.count(asked, is_proof, parts.first.is_empty());
+    }
+    Ok(counts)
+}
+
+/// How many records of papers alone asked for what, with a proof or without one.
+#[derive(Clone, Debug, Default, PartialEq, Eq)]
+pub struct Counts([u64; ASKED.len()]);
+
+const ASKED: [&str; 9] = [
+    "proved, or by its first side",
+    "proved, or by its second side",
+    "proved, else",
+    "of them without a statement",
+    "refused, an atom",
+    "refused, false",
+    "refused, or by no right rule",
+    "refused, or by a right rule",
+    "refused, else",
+];
+
+impl Counts {
+    fn count(&mut self, asked: Asked, is_proof: bool, is_empty: bool) {
+        let which = match (asked, is_proof) {
+            (Asked::OrByFirst, true) => 0,
+            (Asked::OrBySecond, true) => 1,
+            (_, true) => 2,
+            (Asked::Atom, _) => 4,
+            (Asked::False, _) => 5,
+            (Asked::Or, _) => 6,
+            (Asked::OrByFirst | Asked::OrBySecond, _) => 7,
+            (Asked::Else, _) => 8,
+        };
+        self.0[which] += 1;
+        self.0[3] += u64::from(is_proof && is_empty);
+    }
+
+    pub fn add(&mut self, other: &Counts) {
+        self.0.iter_mut().zip(other.0).for_each(|(mine, theirs)| *mine += theirs);
+    }
+
+    pub fn counts(&self) -> impl Iterator<Item = (&'static str, u64)> + '_ {
+        ASKED.into_iter().zip(self.0)
+    }
+}
