@@ -7,9 +7,9 @@ ghost use Rattle.table.specs.Tests.{entries};
 ghost use Rattle.steps.specs.Rules as Rules;
 ghost use Rattle.steps.specs.Figure1.{same};
 ghost use Rattle.premises.specs.Premises.{opened};
+use deputies_check::speaks::speaks_for;
 use premises::premises::Premises;
 use steps::goal::Goal;
-use steps::speaks::speaks_for;
 use table::entry::Entry;
 use table::entry::entry_at;
 

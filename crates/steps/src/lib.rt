@@ -1,6 +1,4 @@
-// The types of the step machine: goals, what a step opens, and the verdict; and who speaks for whom. The machine itself
-// is in specs/.
+// The types of the step machine: goals, what a step opens, and the verdict. The machine itself is in specs/.
 pub mod goal;
 pub mod opened;
-pub mod speaks;
 pub mod verdict;

@@ -1,6 +1,6 @@
-// Who speaks for whom.
+// Whether one principal speaks for another.
 ghost use mathlib.Core.Path.{_≡_};
 ghost use Rattle.steps.specs.Figure1.{same};
 use table::entry::Principal;
 
 // "the same K" (01, code 11): the one place where it is decided whether one principal speaks for another.

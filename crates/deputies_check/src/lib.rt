@@ -1,0 +1,2 @@
+// Who speaks for whom, in code.
+pub mod speaks;
