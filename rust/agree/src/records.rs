@@ -116,12 +116,7 @@ fn itself_or_around(table: &mut RandomTable, random: &mut Random, paper: u16, ot
 /// statements. The rest is made without him, so that mostly he can't matter.
 pub fn contracted(random: &mut Random) -> Parts {
     let mut table = RandomTable::default();
-    let levels = random.below(4);
-    let goal = table.formula(random, levels);
-    let steps = random.between(1, 12).max(table.identity_steps(goal));
-    let mut grower = Grower::new(random, &mut table, 20);
-    grower.grow(Judgment::Truth(goal), steps, 1);
-    let (mut statements, mut steps) = (grower.statements, grower.steps);
+    let (goal, mut statements, mut steps) = grown(random, &mut table, 4, 20);
     let (contractor, others) = (random.between(5, 4095) as u16, table.len());
     let mut papers = vec![];
     for _ in 0..random.between(2, 6) {
@@ -145,17 +140,28 @@ pub fn contracted(random: &mut Random) -> Parts {
     dressed(random, table, statements, goal, steps)
 }
 
+/// A random goal of fewer than so many levels, what a grown proof of it needs as statements, mostly
+/// no more than so many, and the proof.
+fn grown(
+    random: &mut Random,
+    table: &mut RandomTable,
+    levels: usize,
+    statements: usize,
+) -> (u16, Vec<u16>, Vec<u16>) {
+    let levels = random.below(levels);
+    let goal = table.formula(random, levels);
+    let steps = random.between(1, 12).max(table.identity_steps(goal));
+    let mut grower = Grower::new(random, table, statements);
+    grower.grow(Judgment::Truth(goal), steps, 1);
+    (goal, grower.statements, grower.steps)
+}
+
 /// A record of papers alone: some principal says all that a proof needs. Mostly he then says its goal
 /// too, which is right, and so is an or around that. Else the papers are opened for the goal itself,
 /// as if what he says were true; with no paper that is right as well.
 pub fn of_papers(random: &mut Random) -> Parts {
     let mut table = RandomTable::default();
-    let levels = random.below(3);
-    let goal = table.formula(random, levels);
-    let steps = random.between(1, 12).max(table.identity_steps(goal));
-    let mut grower = Grower::new(random, &mut table, 8);
-    grower.grow(Judgment::Truth(goal), steps, 1);
-    let (needed, proof) = (grower.statements, grower.steps);
+    let (goal, needed, proof) = grown(random, &mut table, 3, 8);
     let principal = random.name();
     let mut papers: Vec<u16> =
         needed.into_iter().map(|formula| table.number(Says(principal, formula))).collect();
