@@ -1,6 +1,5 @@
--- Membership and inclusion. In order: an order of lists; a member in front; what holds of
--- each member; joined lists; a member put in; members by
--- position; the test for membership. Assumes nothing.
+-- Membership and inclusion. In order: an order of lists; a member in front; what holds of each member; joined lists; a
+-- member put in; members by position; the test for membership. Assumes nothing.
 use Prim.Native.Nat.{ℕ, zero, suc, _<_}
 use native.Mathlib.Omega.{arith}
 use mathlib.Core.Bool.{Bool, true, false, false≢true, true≢false}

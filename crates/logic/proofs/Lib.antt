@@ -5,7 +5,7 @@ pub mod Depth
 pub mod Structural
 pub mod OneStep
 pub mod FromSigned
-pub mod SaysAsTruth
+pub mod SaysErased
 pub mod SignedAlone
 pub mod SaysLeft
 pub mod Sides

@@ -1,11 +1,10 @@
--- What signed statements alone can't give (specs/SignedAlone.antt). Of the left rules only says left can name one of
--- them, and it serves an affirmation. So the last rule of a truth's derivation is the right rule of its connective
--- (`by-right-rule`). Assumes nothing.
+-- What signed statements alone can't give (specs/SignedAlone.antt). Of the rules that name a hypothesis only says left
+-- can name one of them, and it serves an affirmation. So a truth's derivation ends with a right rule (`by-right-rule`).
+-- Assumes nothing.
 use native.Mathlib.Omega.{arith}
 use mathlib.Core.Path.{_≡_, refl, sym, subst}
-use mathlib.Core.Logic.{_≢_, _↔_, _⊎_, inl, inr, ⊎-elim}
-use mathlib.Core.List.{List, [], _∷_}
-use Rattle.basics.specs.Membership.{_∈_}
+use mathlib.Core.Logic.{_≢_, _⊎_, inl, inr, ⊎-elim}
+use mathlib.Core.List.{List}
 use Rattle.basics.proofs.Membership.{first, second, each-of-none, each-of-more}
 use Rattle.logic.specs.Proposition.{Proposition, Atom, Principal, atom, false, _implies_, _and_, _or_, _says_}
 use Rattle.logic.specs.Judgment.{truth}
@@ -13,19 +12,21 @@ use Rattle.logic.specs.Principals.{Relation, Reflexive}
 use Rattle.logic.specs.Derivation.{Derivation, init, affirm, implies-right, implies-left, false-left, and-right, and-left, or-right-first, or-right-second, or-left, says-right, says-left}
 use Rattle.logic.specs.Force.{HasProof}
 use Rattle.logic.specs.Signed.{SignedBy, AllSignedBy, Anybody}
-use Rattle.logic.specs.SignedAlone.{GivesNoMore, SignedAlone, SignedIsSays, OneOrderMore, OrInAPaper}
+use Rattle.logic.specs.SignedAlone.{SignedAlone, SignedIsSays, OneOrderMore, OrInAPaper}
 use Rattle.logic.proofs.FromSigned.{one-signed}
-use Rattle.logic.proofs.SaysAsTruth.{True, stays-true}
+use Rattle.logic.proofs.SaysErased.{Holds, AllHold, sound}
 
 module _ {R : Relation} {Γ : List Proposition} where
-  -- The derivation ends with a right rule for A; for an or, with which one.
+  -- Of an atom and of false there is no derivation, and that of an or ends with one of its right rules. Nothing is said
+  -- of the others.
   abbrev pub ByRightRule : (A : Proposition) → Derivation R Γ (truth A) → Type 0
   ByRightRule (atom a) D = ⊥
   ByRightRule false D = ⊥
   ByRightRule (A implies B) D = Unit
   ByRightRule (A and B) D = Unit
   ByRightRule (A or B) D =
-      ((E : Derivation R Γ (truth A)) × (D ≡ or-right-first E)) ⊎ ((E : Derivation R Γ (truth B)) × (D ≡ or-right-second E))
+      ((E : Derivation R Γ (truth A)) × (D ≡ or-right-first E))
+      ⊎ ((E : Derivation R Γ (truth B)) × (D ≡ or-right-second E))
   ByRightRule (K says A) D = Unit
 
   pub by-right-rule : AllSignedBy Anybody Γ → {A : Proposition} (D : Derivation R Γ (truth A)) → ByRightRule A D
@@ -61,18 +62,13 @@ signed-says (K says A) signed = (K, A, refl)
 pub signed-is-says : SignedIsSays
 signed-is-says A = (signed-says A, λ (K, B, e). subst (SignedBy Anybody) (sym e) tt)
 
--- What is true where every atom but a is, and what anybody says of it.
-abbrev TrueBut : Atom → Proposition → Type 0
-TrueBut a = True (λ b. b ≢ a)
+-- In the reading of SaysErased.antt where every atom but a holds, neither a nor anybody's word on a does.
+abbrev HoldsBut : Atom → Proposition → Type 0
+HoldsBut a = Holds (λ b. b ≢ a)
 
--- Where all statements are, a has no proof, and nor has anybody's word on a.
-not-true : {R : Relation} {Γ : List Proposition} (a : Atom) → ((A : Proposition) → A ∈ Γ → TrueBut a A)
-    → ¬ HasProof R Γ (atom a)
-not-true a all D = stays-true (λ b. b ≢ a) D all refl
-
-not-said : {R : Relation} {Γ : List Proposition} (L : Principal) (a : Atom)
-    → ((A : Proposition) → A ∈ Γ → TrueBut a A) → ¬ HasProof R Γ (L says atom a)
-not-said L a all D = stays-true (λ b. b ≢ a) D all refl
+no-proof : {R : Relation} {Γ : List Proposition} (a : Atom) (A : Proposition) → ¬ HoldsBut a A
+    → AllHold (λ b. b ≢ a) Γ → ¬ HasProof R Γ A
+no-proof a A fails all D = fails (sound (λ b. b ≢ a) D all)
 
 pub one-order-more : {R : Relation} → Reflexive R → OneOrderMore R
 one-order-more reflexive = record {
@@ -82,18 +78,18 @@ one-order-more reflexive = record {
       implies-left second (says-right (says-left first (reflexive 7) (affirm (init first)))) (init first);
   an-and = and-left second (init first);
   an-or = or-left second (or-right-first (init first)) (or-right-second (init first));
-  not-first = not-true 1
-      (each-of-more (TrueBut 1) (omega arith)
-      (each-of-more (TrueBut 1) (inr (omega arith)) (each-of-none (TrueBut 1))));
-  not-second = not-true 2
-      (each-of-more (TrueBut 2) (omega arith)
-      (each-of-more (TrueBut 2) (inl (omega arith)) (each-of-none (TrueBut 2))));
+  not-first = no-proof 1 _ (λ differs. differs refl)
+      (each-of-more (HoldsBut 1) (omega arith)
+      (each-of-more (HoldsBut 1) (inr (omega arith)) (each-of-none (HoldsBut 1))));
+  not-second = no-proof 2 _ (λ differs. differs refl)
+      (each-of-more (HoldsBut 2) (omega arith)
+      (each-of-more (HoldsBut 2) (inl (omega arith)) (each-of-none (HoldsBut 2))));
 }
 
 pub or-in-a-paper : (R : Relation) → OrInAPaper R
 or-in-a-paper R K L a b differ D =
-    let only = signed-alone R _ (one-signed Anybody _ tt) in
     ⊎-elim
-    (not-said L a (each-of-more (TrueBut a) (inr (λ e. differ (sym e))) (each-of-none (TrueBut a))))
-    (not-said L b (each-of-more (TrueBut b) (inl differ) (each-of-none (TrueBut b))))
-    (only .or-by-a-side _ _ .0 D)
+    (no-proof a _ (λ differs. differs refl)
+    (each-of-more (HoldsBut a) (inr (λ e. differ (sym e))) (each-of-none (HoldsBut a))))
+    (no-proof b _ (λ differs. differs refl) (each-of-more (HoldsBut b) (inl differ) (each-of-none (HoldsBut b))))
+    (signed-alone R _ (one-signed Anybody _ tt) .or-by-a-side _ _ .0 D)

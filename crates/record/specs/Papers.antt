@@ -4,23 +4,35 @@
 use Prim.Native.Nat.{ℕ}
 use mathlib.Core.Bool.{Bool}
 use mathlib.Core.Path.{_≡_}
-use mathlib.Core.Logic.{_≢_, _⊎_}
+use mathlib.Core.Logic.{_≢_, _↔_, _⊎_}
 use mathlib.Core.List.{List, _∷_}
+use Rattle.basics.specs.Membership.{_∈_}
 use Rattle.basics.specs.Word.{word}
 use Rattle.logic.specs.Proposition.{Proposition, Atom, atom, false, _or_}
 use Rattle.logic.specs.Principals.{Relation}
 use Rattle.logic.specs.Force.{HasProof}
 use Rattle.logic.specs.Signed.{AllSignedBy, Anybody}
+use Rattle.table.specs.declared.entry.Entry.the-variants.{Says}
+use Rattle.table.specs.declared.entry.Formula.{Formula}
+use Rattle.table.specs.Entry.{principal}
+use Rattle.table.specs.Tests.{entryAt}
 use Rattle.table.specs.Number.{number}
 use Rattle.steps.specs.Words as Derived
 use Rattle.record.specs.declared.verdict.RecordVerdict.the-variants.{Granted}
-use Rattle.record.specs.Layout.{steps, table}
+use Rattle.record.specs.Layout.{statements, steps, table}
 use Rattle.record.specs.Answer.{recordAnswer}
-use Rattle.record.specs.Proof.{statedBy, goalOf}
+use Rattle.record.specs.Proof.{Keeps, statedBy, goalOf}
 
 -- "all says-formulas, the empty list included"
 abbrev pub OnlyPapers : List ℕ → Type 0
 OnlyPapers file = AllSignedBy Anybody (statedBy file)
+
+-- By the table: the entry of each statement is what some principal says.
+abbrev pub PapersByEntries : Type 0
+PapersByEntries =
+    (file : List ℕ) → Keeps file
+    → OnlyPapers file
+    ↔ ((n : ℕ) → n ∈ statements file → (K : ℕ) × (f : Formula) × (entryAt (table file) n ≡ Says (principal K) f))
 
 -- The step words are w and then, to the last, those of a proof of A from the same statements.
 pub record Begins (R : Relation) (file : List ℕ) (w : ℕ) (A : Proposition) : Type 0 where

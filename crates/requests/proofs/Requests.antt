@@ -14,7 +14,7 @@ use Rattle.independence.proofs.SameWords.{same-words, never-signs}
 use Rattle.independence.proofs.Samples as Asked
 use Rattle.logic.proofs.Sides.{sides-are}
 use Rattle.logic.proofs.SignedAlone.{signed-alone, signed-is-says, one-order-more, or-in-a-paper}
-use Rattle.record.proofs.Papers.{papers-alone}
+use Rattle.record.proofs.Papers.{papers-by-entries, papers-alone}
 use Rattle.requests.specs.Requests.{ForEveryRelation}
 use Rattle.requests.proofs.Order.{signers-rise, release-grants, order-not-free, one-possible-line, count-stays}
 use Rattle.requests.proofs.Sentences.{release-written, else-refused}
@@ -80,5 +80,6 @@ for-every-relation speaks R lawful = record {
   one-order-more = one-order-more (lawful .reflexive);
   or-in-a-paper = or-in-a-paper R;
   papers-alone = papers-alone speaks R (lawful .decides);
+  papers-by-entries = papers-by-entries;
   from-papers = from-papers;
 }

@@ -21,7 +21,7 @@ use Rattle.independence.specs.Promises as Independence
 use Rattle.independence.specs.Samples as Asked
 use Rattle.logic.specs.Sides.{SidesAre}
 use Rattle.logic.specs.SignedAlone.{SignedAlone, SignedIsSays, OneOrderMore, OrInAPaper}
-use Rattle.record.specs.Papers.{PapersAlone}
+use Rattle.record.specs.Papers.{PapersByEntries, PapersAlone}
 use Rattle.requests.specs.Order.{SignersRise, ReleaseGrants, OrderNotFree, OnePossibleLine, CountStays}
 use Rattle.requests.specs.Sentences.{ReleaseWritten, ElseRefused}
 use Rattle.requests.specs.WhoCarried.{EightCounts, EightOfSentences, EightStands}
@@ -109,14 +109,15 @@ pub record Requests (speaks : ℕ → ℕ → Bool) (R : Relation) : Type 0 wher
   pub of-a : Asked.OfA
   pub order : Asked.Order
   -- Job 6. "From a list whose statements are all says-formulas, the empty list included, no atom and not false has a
-  -- proof of any size, and an or has a proof only if one of its sides has." What all says-formulas are, and that "all"
-  -- is needed; an or in a paper.
+  -- proof of any size, and an or has a proof only if one of its sides has." Which statements are signed, that "all" is
+  -- needed, and what an or in a paper doesn't give:
   pub signed-alone : SignedAlone R
   pub signed-is-says : SignedIsSays
   pub one-order-more : OneOrderMore R
   pub or-in-a-paper : OrInAPaper R
   -- "It is to hold for the checker's derivations, with no new program."
   pub papers-alone : PapersAlone speaks R
+  pub papers-by-entries : PapersByEntries
   pub from-papers : FromPapers
 
 -- For every test that decides a reflexive and transitive relation.

@@ -66,8 +66,8 @@ onlyWhoCarried =
 abbrev pub OnlyWhoCarried : Type 0
 OnlyWhoCarried = Print onlyWhoCarried
 
--- 2 and 3 are what 7 says of atoms 0 and 1; 4 is the or of the atoms, and 5 that 7 says it; 6 is the or of 2 and 3, 7
--- that of 2 and atom 1, and 8 that of atom 1 and 2
+-- Entries 0 and 1 are atoms, 2 and 3 what principal 7 says of them; entry 4 is the atoms' or, and 5 that 7 says it;
+-- entries 6, 7 and 8 are the ors of 2 and 3, of 2 and 1, and of 1 and 2.
 abbrev pub withOrs : List ℕ → ℕ → List ℕ → List ℕ
 withOrs statements goal steps =
     9 ∷ length statements ∷ length steps ∷ goal
@@ -75,14 +75,17 @@ withOrs statements goal steps =
     ∷ 0 ∷ 0 ∷ 0 ∷ 1 ∷ 1 ∷ 4 ∷ 3 ∷ 1 ∷ 2
     ∷ statements ++ steps
 
--- Job 6. An atom that 7 and 8 both say; the same with the atom as an order; false, which 7 says. An or in a paper of 7:
--- he says neither side, whichever is begun with. An or by its first side, and by its second.
+-- Job 6. An atom that principals 7 and 8 both say; the same with the atom as an order; false, which 7 says. An or in a
+-- paper of 7: the steps begin with his word on its first side, or on its second. An or by its first side, and by its
+-- second.
 abbrev pub fromPapers : List Sample
 fromPapers =
     a-record (overT (1 ∷ 2 ∷ []) 0 (45057 ∷ [])) prints "refused 14 place 0\n"
     ∷ a-record (overT (1 ∷ 2 ∷ 0 ∷ []) 0 (0 ∷ [])) prints "granted 0\n"
     ∷ a-record (2 ∷ 1 ∷ 1 ∷ 0 ∷ 4096 ∷ 20487 ∷ 0 ∷ 0 ∷ 1 ∷ 16384 ∷ []) prints "refused 12 place 0\n"
-    ∷ a-record (withOrs (5 ∷ []) 6 (28672 ∷ 40960 ∷ 45061 ∷ 36868 ∷ 4096 ∷ 0 ∷ 4096 ∷ 0 ∷ [])) prints "refused 12 place 7\n"
+    ∷ a-record
+    (withOrs (5 ∷ []) 6 (28672 ∷ 40960 ∷ 45061 ∷ 36868 ∷ 4096 ∷ 0 ∷ 4096 ∷ 0 ∷ []))
+    prints "refused 12 place 7\n"
     ∷ a-record (withOrs (5 ∷ []) 6 (32768 ∷ 40960 ∷ 45061 ∷ 36868 ∷ 4096 ∷ 1 ∷ [])) prints "refused 12 place 5\n"
     ∷ a-record (withOrs (2 ∷ []) 7 (28672 ∷ 40960 ∷ 45058 ∷ 4096 ∷ 0 ∷ [])) prints "granted 1 7\n"
     ∷ a-record (withOrs (2 ∷ []) 8 (32768 ∷ 40960 ∷ 45058 ∷ 4096 ∷ 0 ∷ [])) prints "granted 1 7\n"

@@ -26,7 +26,7 @@ pub const SEED: u64 = 2006;
 const DOUBLED: [u16; 20] =
     [1, 2, 3, 8, 15, 16, 17, 18, 28, 29, 31, 32, 33, 60, 61, 63, 64, 65, 128, 4000];
 
-/// How many records of papers alone the set has, mostly.
+/// How many records of papers alone, or nearly, the set has.
 const OF_PAPERS: u64 = 20_000;
 
 /// How many files with crowded tables the set has, before the largest, which are its last.
@@ -63,8 +63,8 @@ impl Fixed {
             pieces.extend((0..words.len()).map(|at| any_word(words, kind, at)));
         }
         pieces.extend(all_short_proofs());
-        let of_papers = |number| of_papers(&mut Random::of(6, number));
-        pieces.push(Piece { count: OF_PAPERS, make: Box::new(of_papers) });
+        let papers = |number| of_papers(&mut Random::of(6, number));
+        pieces.push(Piece { count: OF_PAPERS, make: Box::new(papers) });
         pieces.push(Piece { count: CROWDED, make: Box::new(crowded_files) });
         pieces.push(Piece { count: LARGEST, make: Box::new(largest_files) });
         Fixed(pieces)

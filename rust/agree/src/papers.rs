@@ -12,8 +12,8 @@ use builder::table::Entry::{self, Atom, False, Or};
 pub enum Asked {
     Atom,
     False,
-    /// An or that doesn't begin with a right rule.
-    Or,
+    /// An or, and the steps don't begin with one of its right rules.
+    OrByNoRight,
     OrByFirst,
     OrBySecond,
     Else,
@@ -29,18 +29,18 @@ pub fn asked(parts: &Parts) -> Option<Asked> {
         Some(Or(..)) => match rule(parts.steps[0]) {
             OR_RIGHT_FIRST => Asked::OrByFirst,
             OR_RIGHT_SECOND => Asked::OrBySecond,
-            _ => Asked::Or,
+            _ => Asked::OrByNoRight,
         },
         _ => Asked::Else,
     })
 }
 
 /// Whether papers alone can give this.
-pub fn can_be_had(asked: Asked) -> bool {
-    !matches!(asked, Asked::Atom | Asked::False | Asked::Or)
+fn can_be_had(asked: Asked) -> bool {
+    !matches!(asked, Asked::Atom | Asked::False | Asked::OrByNoRight)
 }
 
-/// Looks at a file for which both checks gave these answers. 8 is for a proof, too.
+/// Looks at a file for which both checkers gave these answers. 8 is for a proof, too.
 pub fn compared(given: &Given, answers: &[(Kind, Answer)]) -> Result<Counts, Box<Disagreement>> {
     let mut counts = Counts::default();
     for (_, answer) in answers.iter().filter(|(kind, _)| *kind == Kind::Record) {
@@ -68,7 +68,7 @@ const ASKED: [&str; 9] = [
     "proved, or by its first side",
     "proved, or by its second side",
     "proved, else",
-    "of them without a statement",
+    "proved, without a statement",
     "refused, an atom",
     "refused, false",
     "refused, or by no right rule",
@@ -84,7 +84,7 @@ impl Counts {
             (_, true) => 2,
             (Asked::Atom, _) => 4,
             (Asked::False, _) => 5,
-            (Asked::Or, _) => 6,
+            (Asked::OrByNoRight, _) => 6,
             (Asked::OrByFirst | Asked::OrBySecond, _) => 7,
             (Asked::Else, _) => 8,
         };

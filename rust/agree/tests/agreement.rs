@@ -1,12 +1,14 @@
 //! The proved checker and the second one on the fixed set, and what the generators promise.
-use agree::compare::{compared, Answer};
+use agree::compare::{compared, proved, Answer};
 use agree::fixed::{Fixed, CROWDED, FEW, LARGEST, SEED};
-use agree::given::given;
-use agree::papers::{asked, can_be_had, Asked};
+use agree::given::{given, Given};
+use agree::papers::{self, asked, Asked};
 use agree::parts::{Kind, Parts};
+use agree::records;
 use agree::run::{run, STACK};
 use agree::texts::TOO_LONG;
 use builder::layout;
+use builder::random::Random;
 use builder::samples::{A, T};
 use builder::steps::{
     AFFIRM, INIT, OR_LEFT, OR_RIGHT_FIRST, OR_RIGHT_SECOND, SAYS_LEFT, SAYS_RIGHT,
@@ -89,8 +91,7 @@ fn a_seed_makes_the_same_files_everywhere() {
     assert_eq!(format!("{sum:016x}"), "5340f17816c86775");
 }
 
-/// What counts as papers alone, and what they can't give: else the look at each grant would find
-/// nothing.
+/// What counts as papers alone, and what they are asked for.
 #[test]
 fn what_papers_alone_are_asked_for_is_told() {
     let over_t = |statements: &[u16], goal, steps: &[u16]| {
@@ -108,11 +109,55 @@ fn what_papers_alone_are_asked_for_is_told() {
     assert_eq!(of_papers(1, SAYS_RIGHT), Some(Asked::Else));
     assert_eq!(of_papers(2, OR_RIGHT_FIRST), Some(Asked::OrByFirst));
     assert_eq!(of_papers(2, OR_RIGHT_SECOND), Some(Asked::OrBySecond));
-    assert_eq!(of_papers(2, OR_LEFT + 2), Some(Asked::Or));
-    assert_eq!(of_papers(2, AFFIRM), Some(Asked::Or));
-    let refused = [Asked::Atom, Asked::False, Asked::Or].map(can_be_had);
-    let right = [Asked::OrByFirst, Asked::OrBySecond, Asked::Else].map(can_be_had);
-    assert_eq!((refused, right), ([false; 3], [true; 3]));
+    assert_eq!(of_papers(2, OR_LEFT + 2), Some(Asked::OrByNoRight));
+    assert_eq!(of_papers(2, AFFIRM), Some(Asked::OrByNoRight));
+}
+
+/// A checker that gave an atom, false, or an or without a right rule from papers alone would be
+/// found, if both did so; and what they can give may be granted.
+#[test]
+fn a_grant_that_papers_alone_cannot_give_is_found() {
+    // false, atom 0, what 7 says of it, and an or of that and the atom
+    let table = [(4096, 0), (0, 0), (5 * 4096 + 7, 1), (4 * 4096 + 2, 1)];
+    let is_found = |statement, goal, first, answer: Answer| {
+        let file = Parts::record(&table, vec![statement], goal, vec![first]).bytes();
+        let given = Given { family: "papers", kind: Kind::Record, file, room: 256, to_both: false };
+        papers::compared(&given, &[(Kind::Record, answer)]).is_err()
+    };
+    let granted = || Answer::Granted(vec![7]);
+    let refused = |number| Answer::Refused { number, place: 0 };
+    for (goal, first) in [(0, SAYS_LEFT + 2), (1, SAYS_LEFT + 2), (3, SAYS_LEFT + 2)] {
+        assert!(is_found(2, goal, first, granted()), "goal {goal}");
+        assert!(is_found(2, goal, first, refused(8)), "goal {goal}");
+        assert!(!is_found(2, goal, first, refused(14)), "goal {goal}");
+        assert!(!is_found(1, goal, first, granted()), "goal {goal} from an order");
+    }
+    for (goal, first) in [(3, OR_RIGHT_FIRST), (3, OR_RIGHT_SECOND), (2, SAYS_RIGHT)] {
+        assert!(!is_found(2, goal, first, granted()), "goal {goal}");
+    }
+}
+
+/// The records that are made as of papers alone are that, and ask for everything: often what can be
+/// had, with a proof, and often what can't.
+#[test]
+fn records_of_papers_alone_ask_for_everything() {
+    let mut counts = [0; 6];
+    for number in 0..4_000 {
+        let parts = records::of_papers(&mut Random::of(7, number));
+        let answer = proved(&parts.bytes(), Kind::Record, 256);
+        let is_granted = matches!(answer, Answer::Granted(_));
+        let which = match asked(&parts).expect("papers alone") {
+            Asked::Atom => 0,
+            Asked::False => 1,
+            Asked::OrByNoRight => 2,
+            Asked::OrByFirst if is_granted => 3,
+            Asked::OrBySecond if is_granted => 4,
+            Asked::Else if is_granted => 5,
+            _ => continue,
+        };
+        counts[which] += 1;
+    }
+    assert!(counts.into_iter().all(|count| count >= 20), "{counts:?}");
 }
 
 /// "5. An entry has the head and second of an earlier one (place: the first such later entry": the

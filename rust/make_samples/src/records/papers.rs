@@ -4,7 +4,7 @@ use crate::record::Record;
 use crate::sample::{sample, Section};
 use builder::papers::opened;
 use builder::steps::*;
-use builder::table::Entry::{Atom, Or, Says};
+use builder::table::Entry::{Atom, False, Or, Says};
 use builder::table::Table;
 
 pub fn papers_alone() -> Section<Record> {
@@ -12,6 +12,11 @@ pub fn papers_alone() -> Section<Record> {
     let mut said = Table::default();
     let a0 = said.number(Atom(0));
     let papers = [7, 8, 9].map(|principal| said.number(Says(principal, a0)));
+
+    // what p7 says of false
+    let mut absurd = Table::default();
+    let falsehood = absurd.number(False);
+    let says_false = absurd.number(Says(7, falsehood));
 
     // for an or of which one side is a paper of p7
     let mut sides = Table::default();
@@ -33,9 +38,16 @@ pub fn papers_alone() -> Section<Record> {
                 "refused 14 place 0",
             ),
             sample(
+                "false-from-papers",
+                "p7 says false, and false is the goal. False left needs false itself as a \
+                 hypothesis, and the paper isn't that.",
+                record(&absurd, &[says_false], falsehood, &[FALSE_LEFT + falsehood]),
+                "refused 12 place 0",
+            ),
+            sample(
                 "or-by-its-first-side",
-                "An or that papers give: its first side is a paper of p7, and or right first says \
-                 so. The second side has no proof.",
+                "An or that papers give: its first side is a paper of p7, and the proof begins \
+                 with or right first. The second side has no proof.",
                 record(
                     &sides[..4],
                     &[paper],
@@ -46,7 +58,7 @@ pub fn papers_alone() -> Section<Record> {
             ),
             sample(
                 "or-by-its-second-side",
-                "The same or the other way round, by or right second.",
+                "The same sides in the other order: the proof begins with or right second.",
                 record(
                     &sides,
                     &[paper],
