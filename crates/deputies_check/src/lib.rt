@@ -1,2 +1,2 @@
-// Who speaks for whom, in code.
+// Who speaks for whom, in code: so far each for himself alone.
 pub mod speaks;

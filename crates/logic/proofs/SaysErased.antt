@@ -1,5 +1,5 @@
--- A reading in which some atoms hold and K says A holds where A does: what has a proof from statements that hold,
--- holds. So what doesn't has none. For every relation on principals. Assumes nothing.
+-- A reading of propositions: some atoms hold, and K says A holds where A does. What has a proof from statements that
+-- hold, holds too (`sound`). For every relation on principals. Assumes nothing.
 use mathlib.Core.Logic.{_⊎_, inl, inr, ⊎-elim}
 use mathlib.Core.List.{List}
 use Rattle.basics.specs.Membership.{_∈_}

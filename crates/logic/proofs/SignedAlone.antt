@@ -1,6 +1,6 @@
 -- What signed statements alone can't give (specs/SignedAlone.antt). Of the rules that name a hypothesis only says left
--- can name one of them, and it serves an affirmation. So a truth's derivation ends with a right rule (`by-right-rule`).
--- Assumes nothing.
+-- can name one of them, and it serves an affirmation. So of an atom and of false there is no derivation, and that of an
+-- or ends with one of its right rules (`by-right-rule`). Assumes nothing.
 use native.Mathlib.Omega.{arith}
 use mathlib.Core.Path.{_≡_, refl, sym, subst}
 use mathlib.Core.Logic.{_≢_, _⊎_, inl, inr, ⊎-elim}
@@ -17,8 +17,7 @@ use Rattle.logic.proofs.FromSigned.{one-signed}
 use Rattle.logic.proofs.SaysErased.{Holds, AllHold, sound}
 
 module _ {R : Relation} {Γ : List Proposition} where
-  -- Of an atom and of false there is no derivation, and that of an or ends with one of its right rules. Nothing is said
-  -- of the others.
+  -- Nothing is said of the others.
   abbrev pub ByRightRule : (A : Proposition) → Derivation R Γ (truth A) → Type 0
   ByRightRule (atom a) D = ⊥
   ByRightRule false D = ⊥
@@ -87,7 +86,7 @@ one-order-more reflexive = record {
 }
 
 pub or-in-a-paper : (R : Relation) → OrInAPaper R
-or-in-a-paper R K L a b differ D =
+or-in-a-paper R K L M a b differ D =
     ⊎-elim
     (no-proof a _ (λ differs. differs refl)
     (each-of-more (HoldsBut a) (inr (λ e. differ (sym e))) (each-of-none (HoldsBut a))))

@@ -22,7 +22,8 @@ SignedAlone R = (Γ : List Proposition) → AllSignedBy Anybody Γ → GivesNoMo
 abbrev pub SignedIsSays : Type 0
 SignedIsSays = (A : Proposition) → SignedBy Anybody A ↔ ((K : Principal) × (B : Proposition) × (A ≡ K says B))
 
--- "All": one order beside a paper, of whichever kind, can give an atom, false, or an or of which it gives neither side.
+-- "All": one order beside a paper, of whichever kind, can give an atom, false, or an or of which it gives neither side;
+-- for every reflexive relation.
 pub record OneOrderMore (R : Relation) : Type 0 where
   pub an-atom : HasProof R (7 says atom 0 ∷ atom 1 ∷ []) (atom 1)
   pub a-false : HasProof R (7 says atom 0 ∷ false ∷ []) false
@@ -35,5 +36,5 @@ pub record OneOrderMore (R : Relation) : Type 0 where
 -- An or in a paper is no or of papers: what is said may be an or of which nobody says a side.
 abbrev pub OrInAPaper : Relation → Type 0
 OrInAPaper R =
-    (K L : Principal) (a b : Atom) → a ≢ b
-    → ¬ HasProof R (K says (atom a or atom b) ∷ []) (L says atom a or L says atom b)
+    (K L M : Principal) (a b : Atom) → a ≢ b
+    → ¬ HasProof R (K says (atom a or atom b) ∷ []) (L says atom a or M says atom b)

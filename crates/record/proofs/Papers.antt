@@ -1,5 +1,5 @@
--- A granted record of papers alone releases no more than such papers give (specs/Papers.antt): its words are a
--- derivation from them, and the last rule of that is the right rule of the goal. Assumes nothing.
+-- A granted record of papers alone releases no more than such papers give (specs/Papers.antt): its words are those of a
+-- derivation from them, which for an or ends with one of its right rules. Assumes nothing.
 use Prim.Native.Nat.{ℕ}
 use mathlib.Core.Bool.{Bool}
 use mathlib.Core.Path.{_≡_, subst, ap, _∙_}

@@ -1,6 +1,6 @@
 //! What papers alone can't give (02): "no atom and not false has a proof of any size, and an or has
 //! a proof only if one of its sides has". So no record of papers alone is granted with an atom or
-//! false as its goal, and a granted or begins with one of its right rules.
+//! false as its goal, and where the goal is an or, the steps begin with one of its right rules.
 use crate::compare::{Answer, Disagreement};
 use crate::given::Given;
 use crate::parts::{Kind, Parts};
@@ -65,14 +65,14 @@ pub fn compared(given: &Given, answers: &[(Kind, Answer)]) -> Result<Counts, Box
 pub struct Counts([u64; ASKED.len()]);
 
 const ASKED: [&str; 9] = [
-    "proved, or by its first side",
-    "proved, or by its second side",
+    "proved, an or, first side",
+    "proved, an or, second side",
     "proved, else",
     "proved, without a statement",
     "refused, an atom",
     "refused, false",
-    "refused, or by no right rule",
-    "refused, or by a right rule",
+    "refused, an or, neither side",
+    "refused, an or, either side",
     "refused, else",
 ];
 

@@ -157,8 +157,8 @@ fn grown(
 }
 
 /// A record of papers alone: some principal says all that a proof needs. Mostly he then says its goal
-/// too, which is right, and so is an or around that. Else the papers are opened for the goal itself,
-/// as if what he says were true; with no paper that is right as well.
+/// too, and the steps prove that, or an or around it. Else the papers are opened for the goal itself,
+/// as if what he says were true, which is a proof only where it needs no statement.
 pub fn of_papers(random: &mut Random) -> Parts {
     let mut table = RandomTable::default();
     let (goal, needed, proof) = grown(random, &mut table, 3, 8);

@@ -113,8 +113,8 @@ fn what_papers_alone_are_asked_for_is_told() {
     assert_eq!(of_papers(2, AFFIRM), Some(Asked::OrByNoRight));
 }
 
-/// A checker that gave an atom, false, or an or without a right rule from papers alone would be
-/// found, if both did so; and what they can give may be granted.
+/// If both checkers gave an atom, false, or an or without a right rule from papers alone, it would be
+/// found; and what papers can give may be granted.
 #[test]
 fn a_grant_that_papers_alone_cannot_give_is_found() {
     // false, atom 0, what 7 says of it, and an or of that and the atom

@@ -1,4 +1,4 @@
--- `deputies_check::speaks::speaks_for` meets its contract: the test of the two numbers is the relation. Assumes nothing.
+-- `deputies_check::speaks::speaks_for` meets its contract: the test of the numbers is the relation. Assumes nothing.
 use mathlib.Core.Path.{refl}
 use Rattle.deputies_check.proofs.speaks.speaks_for.Statement.{statement}
 use Rattle.deputies_check.proofs.speaks.speaks_for.Tie as tie
