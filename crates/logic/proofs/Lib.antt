@@ -1,5 +1,4 @@
--- The theorems whose statements are in specs/, and the lemmas behind them. Figure1, Samples, Says and Misreadings are
--- cited from above.
+-- The theorems whose statements are in specs/, and the lemmas behind them.
 pub mod Principals
 pub mod Depth
 pub mod Structural

@@ -10,7 +10,7 @@ use Rattle.logic.specs.Signed.{AllSignedBy, Anybody, OtherThan}
 use Rattle.logic.specs.Figure1.{Derivation, HasProof, EqualInForce}
 
 -- "They read 'the lab says the reel is sound' as 'the reel is sound'." What is said, by whomever, does not by itself
--- prove an atom.
+-- prove an atom. (`SignedGiveNoAtom` here and `SignedGiveNoFalse` below are parts of SignedAlone.antt's promise.)
 abbrev pub SaysGivesNoAtom : Type 0
 SaysGivesNoAtom = (K : Principal) (a : Atom) → ¬ HasProof (K says atom a ∷ []) (atom a)
 

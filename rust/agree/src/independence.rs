@@ -1,5 +1,6 @@
 //! Both checkers on whether a principal can matter to a record.
 use crate::compare::{Answer, Disagreement};
+use crate::counts;
 use crate::given::Given;
 use crate::parts::{Kind, Parts};
 use crate::promise;
@@ -59,30 +60,27 @@ pub fn principals(given: &Given, answer: &Answer) -> Vec<u16> {
 /// How many calls gave which answers, and how the promise was kept.
 #[derive(Clone, Debug, Default, PartialEq, Eq)]
 pub struct Counts {
-    calls: [u64; ANSWERS.len()],
+    pub calls: counts::Counts<{ ANSWERS.len() }>,
     pub promise: promise::Counts,
 }
 
-const ANSWERS: [&str; 4] = ["independent", "not independent", "refused 17", "refused otherwise"];
+pub const ANSWERS: [&str; 4] =
+    ["independent", "not independent", "refused 17", "refused otherwise"];
 
 impl Counts {
-    fn count(&mut self, answer: Independent) {
-        let which = match answer {
-            Ok(true) => 0,
-            Ok(false) => 1,
-            Err((17, _)) => 2,
-            Err(_) => 3,
-        };
-        self.calls[which] += 1;
-    }
-
     pub fn add(&mut self, other: &Counts) {
-        self.calls.iter_mut().zip(other.calls).for_each(|(mine, theirs)| *mine += theirs);
+        self.calls.add(&other.calls);
         self.promise.add(&other.promise);
     }
+}
 
-    pub fn counts(&self) -> impl Iterator<Item = (&'static str, u64)> + '_ {
-        ANSWERS.into_iter().zip(self.calls)
+/// The place of an answer in their list.
+fn which(answer: Independent) -> usize {
+    match answer {
+        Ok(true) => 0,
+        Ok(false) => 1,
+        Err((17, _)) => 2,
+        Err(_) => 3,
     }
 }
 
@@ -97,7 +95,7 @@ pub fn compared(given: &Given, answers: &[(Kind, Answer)]) -> Result<Counts, Box
                 let call = format!("independent of {principal}");
                 return Err(Disagreement::new(given, call, [proved, second]));
             }
-            counts.count(proved);
+            counts.calls.count(which(proved));
             if proved == Ok(true) {
                 counts.promise.add(&promise::kept(given, answer, principal)?);
             }

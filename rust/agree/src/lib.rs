@@ -10,11 +10,12 @@
 //! - `misses`, `raw`, `noise`: near misses and noise.
 //! - `given`: which file a seed and a number make; `fixed`: the fixed set of the tests.
 //! - `compare`, `texts`, `independence`: the comparison, that of texts, and whether a principal can
-//!   matter; `promise`: what independent promises; `papers`: what papers alone can't give. `tally`,
-//!   `run`: the counts, the threads.
+//!   matter; `promise`: what independent promises; `papers`: what papers alone can't give. `counts`,
+//!   `tally`, `run`: the counts, the threads.
 #![forbid(unsafe_code)]
 
 pub mod compare;
+pub mod counts;
 pub mod crowded;
 pub mod deep;
 pub mod derivations;

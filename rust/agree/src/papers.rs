@@ -2,6 +2,7 @@
 //! a proof only if one of its sides has". So no record of papers alone is granted with an atom or
 //! false as its goal, and where the goal is an or, the steps begin with one of its right rules.
 use crate::compare::{Answer, Disagreement};
+use crate::counts;
 use crate::given::Given;
 use crate::parts::{Kind, Parts};
 use builder::steps::{rule, OR_RIGHT_FIRST, OR_RIGHT_SECOND};
@@ -55,16 +56,18 @@ pub fn compared(given: &Given, answers: &[(Kind, Answer)]) -> Result<Counts, Box
             let call = format!("papers alone and {asked:?} as goal");
             return Err(Disagreement::new(given, call, [answer, answer]));
         }
-        counts.count(asked, is_proof, parts.first.is_empty());
+        counts.count(which(asked, is_proof));
+        if is_proof && parts.first.is_empty() {
+            counts.count(3);
+        }
     }
     Ok(counts)
 }
 
 /// How many records of papers alone asked for what, with a proof or without one.
-#[derive(Clone, Debug, Default, PartialEq, Eq)]
-pub struct Counts([u64; ASKED.len()]);
+pub type Counts = counts::Counts<{ ASKED.len() }>;
 
-const ASKED: [&str; 9] = [
+pub const ASKED: [&str; 9] = [
     "proved, an or, first side",
     "proved, an or, second side",
     "proved, else",
@@ -76,27 +79,16 @@ const ASKED: [&str; 9] = [
     "refused, else",
 ];
 
-impl Counts {
-    fn count(&mut self, asked: Asked, is_proof: bool, is_empty: bool) {
-        let which = match (asked, is_proof) {
-            (Asked::OrByFirst, true) => 0,
-            (Asked::OrBySecond, true) => 1,
-            (_, true) => 2,
-            (Asked::Atom, _) => 4,
-            (Asked::False, _) => 5,
-            (Asked::OrByNoRight, _) => 6,
-            (Asked::OrByFirst | Asked::OrBySecond, _) => 7,
-            (Asked::Else, _) => 8,
-        };
-        self.0[which] += 1;
-        self.0[3] += u64::from(is_proof && is_empty);
-    }
-
-    pub fn add(&mut self, other: &Counts) {
-        self.0.iter_mut().zip(other.0).for_each(|(mine, theirs)| *mine += theirs);
-    }
-
-    pub fn counts(&self) -> impl Iterator<Item = (&'static str, u64)> + '_ {
-        ASKED.into_iter().zip(self.0)
+/// The place in this list.
+fn which(asked: Asked, is_proof: bool) -> usize {
+    match (asked, is_proof) {
+        (Asked::OrByFirst, true) => 0,
+        (Asked::OrBySecond, true) => 1,
+        (_, true) => 2,
+        (Asked::Atom, _) => 4,
+        (Asked::False, _) => 5,
+        (Asked::OrByNoRight, _) => 6,
+        (Asked::OrByFirst | Asked::OrBySecond, _) => 7,
+        (Asked::Else, _) => 8,
     }
 }

@@ -2,6 +2,7 @@
 //! statements are taken out or exchanged for other statements of K". So the same words get the same
 //! answer, with the same signers, and K is none of them.
 use crate::compare::{self, Answer, Disagreement};
+use crate::counts;
 use crate::given::Given;
 use crate::independence::{by_proved, drawn};
 use crate::parts::{Kind, Parts};
@@ -100,16 +101,19 @@ pub fn kept(given: &Given, before: &Answer, k: u16) -> Result<Counts, Box<Disagr
             let call = format!("{was}, independent then: {is_still}");
             return Err(Disagreement::new(&Given { file, ..given.clone() }, call, after));
         }
-        counts.count(before, change, change == TakenOut && is_heard(&parts, k));
+        let which = which(before, change);
+        counts.count(which);
+        if which == 0 && is_heard(&parts, k) {
+            counts.count(1);
+        }
     }
     Ok(counts)
 }
 
 /// How many records kept the promise.
-#[derive(Clone, Debug, Default, PartialEq, Eq)]
-pub struct Counts([u64; KEPT.len()]);
+pub type Counts = counts::Counts<{ KEPT.len() }>;
 
-const KEPT: [&str; 5] = [
+pub const KEPT: [&str; 5] = [
     "granted, papers taken out",
     "of them heard elsewhere",
     "granted, papers exchanged",
@@ -117,23 +121,12 @@ const KEPT: [&str; 5] = [
     "refused, any of these",
 ];
 
-impl Counts {
-    fn count(&mut self, before: &Answer, change: Change, is_heard: bool) {
-        let which = match (before, change) {
-            (Answer::Granted(_), TakenOut) => 0,
-            (Answer::Granted(_), Exchanged) => 2,
-            (Answer::Granted(_), Added) => 3,
-            _ => 4,
-        };
-        self.0[which] += 1;
-        self.0[1] += u64::from(which == 0 && is_heard);
-    }
-
-    pub fn add(&mut self, other: &Counts) {
-        self.0.iter_mut().zip(other.0).for_each(|(mine, theirs)| *mine += theirs);
-    }
-
-    pub fn counts(&self) -> impl Iterator<Item = (&'static str, u64)> + '_ {
-        KEPT.into_iter().zip(self.0)
+/// The place of a kept promise in their list.
+fn which(before: &Answer, change: Change) -> usize {
+    match (before, change) {
+        (Answer::Granted(_), TakenOut) => 0,
+        (Answer::Granted(_), Exchanged) => 2,
+        (Answer::Granted(_), Added) => 3,
+        _ => 4,
     }
 }

@@ -4,6 +4,7 @@ use crate::given::{Given, FAMILIES};
 use crate::independence;
 use crate::papers;
 use crate::parts::{Kind, Parts};
+use crate::promise;
 use crate::texts::{self, TOO_LONG};
 use builder::steps::{code, RULES};
 use std::fmt;
@@ -117,16 +118,17 @@ impl Tally {
             }
         }
         // only the fixed set has texts that are too long
-        for (what, count) in self.texts.counts().filter(|(what, _)| *what != TOO_LONG) {
+        for (what, count) in self.texts.named(texts::ANSWERS).filter(|(what, _)| *what != TOO_LONG)
+        {
             expect(count, format!("sentences, {what}"));
         }
-        for (what, count) in self.independence.counts() {
+        for (what, count) in self.independence.calls.named(independence::ANSWERS) {
             expect(count, format!("independence, {what}"));
         }
-        for (what, count) in self.independence.promise.counts() {
+        for (what, count) in self.independence.promise.named(promise::KEPT) {
             expect(count, format!("independent and {what}"));
         }
-        for (what, count) in self.papers.counts() {
+        for (what, count) in self.papers.named(papers::ASKED) {
             expect(count, format!("papers alone, {what}"));
         }
         for (code, name) in RULES.iter().enumerate() {
@@ -171,19 +173,19 @@ impl fmt::Display for Tally {
             )?;
         }
         writeln!(f, "\n{:<28} {:>12}", "sentences", "calls")?;
-        for (what, count) in self.texts.counts() {
+        for (what, count) in self.texts.named(texts::ANSWERS) {
             writeln!(f, "{what:<28} {count:>12}")?;
         }
         writeln!(f, "\n{:<28} {:>12}", "independence", "calls")?;
-        for (what, count) in self.independence.counts() {
+        for (what, count) in self.independence.calls.named(independence::ANSWERS) {
             writeln!(f, "{what:<28} {count:>12}")?;
         }
         writeln!(f, "\n{:<28} {:>12}", "independent and still", "records")?;
-        for (what, count) in self.independence.promise.counts() {
+        for (what, count) in self.independence.promise.named(promise::KEPT) {
             writeln!(f, "{what:<28} {count:>12}")?;
         }
         writeln!(f, "\n{:<28} {:>12}", "papers alone", "records")?;
-        for (what, count) in self.papers.counts() {
+        for (what, count) in self.papers.named(papers::ASKED) {
             writeln!(f, "{what:<28} {count:>12}")?;
         }
         writeln!(f, "\n{:<28} {:>12}", "rule, granted and equal", "steps")?;

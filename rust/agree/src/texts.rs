@@ -1,6 +1,7 @@
 //! Both checkers on a record's proof in sentences: the answer, and every word and every byte of
 //! what is lent.
 use crate::compare::{Answer, Disagreement};
+use crate::counts;
 use crate::given::Given;
 use crate::parts::Kind;
 use builder::texts::MOST_TEXT;
@@ -90,32 +91,22 @@ fn length(file: &[u8], signers: usize) -> Option<usize> {
 }
 
 /// How many calls gave which answers.
-#[derive(Clone, Debug, Default, PartialEq, Eq)]
-pub struct Counts([u64; ANSWERS.len()]);
+pub type Counts = counts::Counts<{ ANSWERS.len() }>;
 
-const ANSWERS: [&str; 5] = ["written", "refused 8", "refused 16", TOO_LONG, "refused otherwise"];
+pub const ANSWERS: [&str; 5] =
+    ["written", "refused 8", "refused 16", TOO_LONG, "refused otherwise"];
 
 /// The text is longer than what the program lends.
 pub const TOO_LONG: &str = "refused 16, too long";
 
-impl Counts {
-    fn count(&mut self, room: Room, answer: Written) {
-        let which = match answer {
-            Ok(_) => 0,
-            Err((8, _)) => 1,
-            Err((16, _)) if room.bytes < MOST_TEXT => 2,
-            Err((16, _)) => 3,
-            Err(_) => 4,
-        };
-        self.0[which] += 1;
-    }
-
-    pub fn add(&mut self, other: &Counts) {
-        self.0.iter_mut().zip(other.0).for_each(|(mine, theirs)| *mine += theirs);
-    }
-
-    pub fn counts(&self) -> impl Iterator<Item = (&'static str, u64)> + '_ {
-        ANSWERS.into_iter().zip(self.0)
+/// The place of an answer in their list.
+fn which(room: Room, answer: Written) -> usize {
+    match answer {
+        Ok(_) => 0,
+        Err((8, _)) => 1,
+        Err((16, _)) if room.bytes < MOST_TEXT => 2,
+        Err((16, _)) => 3,
+        Err(_) => 4,
     }
 }
 
@@ -130,7 +121,7 @@ pub fn compared(given: &Given, answers: &[(Kind, Answer)]) -> Result<Counts, Box
             let call = format!("as sentences, {room:?} lent");
             return Err(Disagreement::new(given, call, [proved, second]));
         }
-        counts.count(room, proved.answer);
+        counts.count(which(room, proved.answer));
     }
     Ok(counts)
 }

@@ -6,7 +6,7 @@ use agree::papers::{self, asked, Asked};
 use agree::parts::{Kind, Parts};
 use agree::records;
 use agree::run::{run, STACK};
-use agree::texts::TOO_LONG;
+use agree::texts::{ANSWERS, TOO_LONG};
 use builder::layout;
 use builder::random::Random;
 use builder::samples::{A, T};
@@ -45,7 +45,7 @@ fn both_checkers_agree_on_the_fixed_set() {
             println!("{tally}");
             assert_eq!(tally.files, fixed.count());
             assert_eq!(tally.missing(), Vec::<String>::new(), "never occurred");
-            let too_long = tally.texts.counts().find(|(what, _)| *what == TOO_LONG);
+            let too_long = tally.texts.named(ANSWERS).find(|(what, _)| *what == TOO_LONG);
             assert!(too_long.is_some_and(|(_, count)| count > 0), "no text was too long");
         }
     }
