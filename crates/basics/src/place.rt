@@ -1,5 +1,5 @@
 // Where a test found its first fault, if anywhere. Places count from 0.
-#[derive(Drop)]
+#[derive(Clone, Copy)]
 pub enum Place {
     At(usize),
     Nowhere,

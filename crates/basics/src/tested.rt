@@ -1,5 +1,5 @@
 // What tests made in their order come to: all passed, or the first that applies refuses, with its number and its place.
-#[derive(Drop)]
+#[derive(Clone, Copy)]
 pub enum Tested {
     Passed,
     Refused { number: u8, place: usize },

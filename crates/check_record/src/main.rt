@@ -1,25 +1,23 @@
 // "One program reads a record on standard input and lends a list of 256 words .. prints one line." (01) All but reading
 // and writing is `record_line`'s.
+#![tactic(auto)]
+
 use input::read_input;
-use libc::{STDERR_FILENO, STDIN_FILENO, STDOUT_FILENO};
 use record_check::layout::file_buffer;
 use report::{line_buffer, record_line};
 
-fn main() {
+fn main(rt: HostRuntime) {
     let mut file = file_buffer();
-    let input = read_input(STDIN_FILENO, &mut file);
+    let input = read_input(&mut rt.stdin(), &mut file);
     if !input.ok {
-        io::write_all(
-            STDERR_FILENO,
-            b"check_record: standard input can't be read\n",
-        );
+        let _ = eprintln!(rt; "check_record: standard input can't be read");
         return;
     }
     let n = input.count;
 
     let mut line = line_buffer();
     let length = record_line(&file[..n], &mut line);
-    if length == 0 || !io::write_all(STDOUT_FILENO, &line[..length]) {
-        io::write_all(STDERR_FILENO, b"check_record: the line can't be written\n");
+    if length == 0 || rt.write_all(&line[..length]).is_err() {
+        let _ = eprintln!(rt; "check_record: the line can't be written");
     }
 }

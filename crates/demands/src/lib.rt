@@ -1,1 +1,3 @@
 // Where the demands come together: definitions and theorems, and no code.
+
+#![tactic(auto)]

@@ -1,6 +1,8 @@
 // The checks for C and Rust. `include/wethrynda.h` declares them for C, and the package in `rust/` wraps them for Rust.
 // Nothing checks these declarations against this file, so there are four functions here, on byte and word slices, and
 // they ask nothing of their caller.
+#![tactic(auto)]
+
 ghost use Rattle.std.specs.Prelude.{◌≤◌, ◌≡◌, length, set};
 ghost use Rattle.basics.specs.Limits.{most_steps};
 ghost use Rattle.record.specs.Figure1.{record_answer};

@@ -34,7 +34,7 @@ pub fn fill_principal(k: Principal, text: &mut [u8], at: usize) -> usize
 }
 
 // An operand of entry n. One that isn't lower is spelled as false.
-#[cycle(fill_formula_fill_left_fill_operand_fill_right)]
+#[cycle(formula)]
 fn fill_operand(
     heads: &[u16],
     seconds: &[u16],
@@ -54,7 +54,7 @@ fn fill_operand(
 }
 
 // What stands before the word of a compound entry n: its first operand, or the principal.
-#[cycle(fill_formula_fill_left_fill_operand_fill_right)]
+#[cycle(formula)]
 fn fill_left(
     heads: &[u16],
     seconds: &[u16],
@@ -90,7 +90,7 @@ fn fill_word(entry: Entry, text: &mut [u8], at: usize) -> usize
 }
 
 // What stands after the word of a compound entry n.
-#[cycle(fill_formula_fill_left_fill_operand_fill_right)]
+#[cycle(formula)]
 fn fill_right(
     heads: &[u16],
     seconds: &[u16],
@@ -114,7 +114,7 @@ fn fill_right(
 // Writes the text of a number's formula from the place `at` on, as far as there is room, and gives the place after it.
 // All compound kinds share one arm, so that the functions above are compiled into this one and a level of the recursion
 // is one small frame.
-#[cycle(fill_formula_fill_left_fill_operand_fill_right)]
+#[cycle(formula)]
 pub fn fill_formula(heads: &[u16], seconds: &[u16], n: u16, text: &mut [u8], at: usize) -> usize
     ensures text_after { text.new ≡ written_at text.old at (proposition_text (spell (entries heads.now seconds.now) n)) }
     ensures value { result ≡ place_after text.old at (proposition_text (spell (entries heads.now seconds.now) n)) }

@@ -8,7 +8,7 @@ ghost use Rattle.goals.specs.Kept.{goal_at};
 use steps::goal::Goal;
 use table::entry::{Entry, entry_at, goal_formula};
 
-#[derive(Drop)]
+#[derive(Clone, Copy)]
 pub struct Kept {
     pub number: u16,
     pub affirms: u16,

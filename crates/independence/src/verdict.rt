@@ -1,6 +1,6 @@
 // The answer of the test whether a principal's papers can touch a record's goal (02, job 5); a refusal "gives its
 // number and a place" (01).
-#[derive(Drop)]
+#[derive(Clone, Copy)]
 pub enum IndependenceVerdict {
     Independent,
     NotIndependent,

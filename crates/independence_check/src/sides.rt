@@ -12,7 +12,7 @@ use table::entry::{Entry, Principal, take_apart};
 
 // Whether a says-formula that counts stands in a formula, where that itself stands on the proving side, and where it
 // stands on the given side.
-#[derive(Drop)]
+#[derive(Clone, Copy)]
 struct Marks {
     proving: bool,
     given: bool,
@@ -51,10 +51,10 @@ pub(crate) fn mark_sides(
     proving: &mut [bool],
     given: &mut [bool],
 )
-    requires seconds_in_bounds { length (entries heads.now seconds.now) ≤ length proving.old }
-    requires seconds_in_bounds_2 { length (entries heads.now seconds.now) ≤ length given.old }
-    ensures marked_for { MarkedFor Sides.proving k.0 heads.now seconds.now proving.new }
-    ensures marked_for_2 { MarkedFor Sides.given k.0 heads.now seconds.now given.new }
+    requires proving_room { length (entries heads.now seconds.now) ≤ length proving.old }
+    requires given_room { length (entries heads.now seconds.now) ≤ length given.old }
+    ensures proving_after { MarkedFor Sides.proving k.0 heads.now seconds.now proving.new }
+    ensures given_after { MarkedFor Sides.given k.0 heads.now seconds.now given.new }
 {
     let mut i = 0;
     while i < heads.len() && i < seconds.len() {

@@ -61,8 +61,8 @@ fn test_in(
     given: &mut [bool],
 ) -> bool
     requires sized_table { SizedTable heads.now seconds.now }
-    requires heads_in_bounds { length heads.now ≤ length proving.old }
-    requires heads_in_bounds_2 { length heads.now ≤ length given.old }
+    requires proving_room { length heads.now ≤ length proving.old }
+    requires given_room { length heads.now ≤ length given.old }
     ensures { result ≡ arrays_independent heads.now seconds.now statements.now goal k.0 }
 {
     mark_sides(heads, seconds, k, proving, given);

@@ -1,1 +1,3 @@
 // What classes and planners may rely on: definitions and theorems in specs/ and proofs/, and no code.
+
+#![tactic(auto)]

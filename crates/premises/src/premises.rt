@@ -7,7 +7,7 @@ use steps::goal::Goal;
 use steps::opened::{Added, Premise};
 use table::entry::{Formula, Principal};
 
-#[derive(Drop)]
+#[derive(Clone, Copy)]
 pub enum Premises {
     // Refused with a number.
     Refused(u8),

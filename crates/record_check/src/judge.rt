@@ -68,6 +68,7 @@ pub fn judge_steps(
 
 // 8, of a list of so many words. The signers are counted only where the room is below S, since they are no more than
 // the statements (`NoMoreThanStatements`).
+#[tactic(auto, using(crate::proofs::RoomTest::refused_8, crate::proofs::RoomTest::passed_8, crate::proofs::RoomTest::passed_by_S))]
 pub fn judge_room(
     heads: &[u16],
     seconds: &[u16],

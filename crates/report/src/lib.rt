@@ -1,5 +1,7 @@
 // A file's check and the line of its answer, or a record's proof in sentences: all that a program does but reading and
 // writing.
+#![tactic(auto)]
+
 ghost use Rattle.std.specs.Prelude.{◌≤◌, ◌≡◌, length, replicate, take};
 ghost use Rattle.exchange.specs.Figure1.{exchange_answer};
 ghost use Rattle.independence.specs.Figure1.{independence_answer};

@@ -110,6 +110,7 @@ pub fn apply(heads: &[u16], seconds: &[u16], held: bool, code: u16, n: u16, goal
 }
 
 // What a step word leaves to prove at a depth, for the truth of f, with the hypotheses that the slots show.
+#[tactic(auto, using(crate::proofs::Tests::too_deep, crate::proofs::Tests::step_opens))]
 pub fn open_truth(
     heads: &[u16],
     seconds: &[u16],
@@ -191,6 +192,7 @@ pub fn open_truth(
 }
 
 // The same for an affirmation of f by k.
+#[tactic(auto, using(crate::proofs::Tests::too_deep, crate::proofs::Tests::step_opens))]
 pub fn open_affirmation(
     heads: &[u16],
     seconds: &[u16],

@@ -1,15 +1,22 @@
 // Checks the files that its arguments name, and prints for each the name, a blank and the line of 01, as `check_record`
 // prints it for a record and `check_exchange` for an exchange file. A name that ends with `.exchange` names an exchange
 // file.
+#![tactic(auto)]
+
 ghost use Rattle.std.specs.Prelude.{◌≤◌, ◌≡◌, length, take};
 
 use ending::ends_with;
 use exchange_check::layout::file_buffer;
+use failure::{Watched, fail};
 use input::read_input;
-use libc::STDOUT_FILENO;
 use report::{exchange_line, line_buffer, record_line};
+use std::env::FillError;
+use std::fs::File;
+use std::rt::Env;
+use std::str::from_utf8;
 
 mod ending;
+mod failure;
 
 // Checks a file of the kind that its name says, and writes the line of the answer.
 fn answer_named(name: &[u8], file: &[u8], line: &mut [u8]) -> usize
@@ -23,46 +30,50 @@ fn answer_named(name: &[u8], file: &[u8], line: &mut [u8]) -> usize
 }
 
 // Prints the line of a file that was read, after its name.
-fn print_line(name: &[u8], file: &[u8]) {
+fn print_line(rt: HostRuntime, name: &[u8], file: &[u8]) {
     let mut line = line_buffer();
     let length = answer_named(name, file, &mut line);
-    io::write_all(STDOUT_FILENO, name);
-    io::write_all(STDOUT_FILENO, b" ");
-    io::write_all(STDOUT_FILENO, &line[..length]);
+    let _ = rt.write_all(name);
+    let _ = rt.write_all(b" ");
+    let _ = rt.write_all(&line[..length]);
 }
 
 // Reads a file that is open, and prints its line. Where it can't be read, standard error says so. An exchange file is
 // the longer one, and a record longer than the longest has the answer of its first bytes (`LongerFile`).
-fn check_open(name: &[u8], fd: i32) {
+fn check_open(rt: HostRuntime, name: &[u8], open: File) {
     let mut file = file_buffer();
-    let input = read_input(fd, &mut file);
+    let mut open = Watched::new(open);
+    let input = read_input(&mut open, &mut file);
     if !input.ok {
-        os::fail(name);
+        open.fail(rt, name);
         return;
     }
     let n = input.count;
-    print_line(name, &file[..n]);
+    print_line(rt, name, &file[..n]);
 }
 
-// Checks the file that an argument names.
-fn check_argument(i: usize) {
-    let mut name = io::buffer();
-    let length = os::arg(i, &mut name);
-    if os::errno() != 0 {
-        os::fail(b"argument");
+// Checks the file that an argument names. (std opens a file only by a name in UTF-8.)
+fn check_argument(rt: HostRuntime, name: &[u8]) {
+    let Ok(path) = from_utf8(name) else {
+        let _ = rt.stderr().write_all(name);
+        let _ = eprintln!(rt; ": the name is not UTF-8");
         return;
+    };
+    match File::open(&rt, path) {
+        Ok(open) => check_open(rt, name, open),
+        Err(error) => fail(rt, name, error),
     }
-    let fd = os::open_read(&name[..length]);
-    if fd < 0 {
-        os::fail(&name[..length]);
-        return;
-    }
-    check_open(&name[..length], fd);
-    libc::close(fd);
 }
 
-fn main() {
-    for i in 1..os::arg_count() {
-        check_argument(i);
+fn main(rt: HostRuntime) {
+    let mut name = [0; 4096];
+    for i in 1..usize::MAX {
+        match rt.arg(i, &mut name) {
+            Ok(length) => check_argument(rt, &name[..length]),
+            Err(FillError::TooLong) => {
+                let _ = eprintln!(rt; "argument: File name too long");
+            }
+            Err(FillError::NotPresent) => break,
+        }
     }
 }

@@ -1,2 +1,4 @@
 // The answer of a call that writes a record's proof in sentences. `sentences_write` has the call.
+#![tactic(auto)]
+
 pub mod verdict;

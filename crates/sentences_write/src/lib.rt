@@ -1,6 +1,8 @@
 // A record's proof in sentences, written into lent bytes.
-mod line;
+#![tactic(auto)]
+
 mod lines;
 mod measure;
 mod name;
+mod text_line;
 pub mod write;

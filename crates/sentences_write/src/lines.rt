@@ -6,7 +6,7 @@ ghost use Rattle.table.specs.Tests.{entries};
 ghost use Rattle.goals.specs.Kept.{lines_at};
 ghost use Rattle.sentences.specs.Sentences.{sentences_from};
 
-use crate::line::fill_line;
+use crate::text_line::fill_line;
 use goals::kept::goal_at;
 
 // Writes a line for each step, as far as the words and both lists go, from the start of the text and as far as it has

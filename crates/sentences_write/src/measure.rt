@@ -11,8 +11,8 @@ ghost use Rattle.sentences.specs.Sentences.{line_text, sentences_from};
 ghost use Rattle.formula_write.specs.Length.{capped, lengths_of, Holds};
 ghost use Rattle.sentences_write.specs.NamedAt.{named_at};
 
-use crate::line::is_naming;
 use crate::name::name_length;
+use crate::text_line::is_naming;
 use basics::limits::MOST_FORMULAS;
 use basics::word::{lower, upper};
 use formula_write::length::{formula_length, measure_formulas, principal_length, sum};

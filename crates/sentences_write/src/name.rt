@@ -30,6 +30,7 @@ pub(crate) fn fill_name(text: &mut [u8], at: usize, code: u16) -> usize
 }
 
 // How many bytes a rule's name has.
+#[tactic(auto, unfolding(sentences::specs::Sentences::rule_name, text::specs::Ascii::ascii))]
 pub(crate) fn name_length(code: u16) -> usize
     ensures { result ≡ length (rule_name code) }
 {

@@ -4,21 +4,21 @@ use crate::goal::Goal;
 use table::entry::Formula;
 
 // The hypotheses that a premise adds.
-#[derive(Drop)]
+#[derive(Clone, Copy)]
 pub enum Added {
     Nothing,
     One(Formula),
     Two(Formula, Formula),
 }
 
-#[derive(Drop)]
+#[derive(Clone, Copy)]
 pub struct Premise {
     pub goal: Goal,
     pub added: Added,
 }
 
 // Refused with a number, or the premises in their order.
-#[derive(Drop)]
+#[derive(Clone, Copy)]
 pub enum Opened {
     Refused(u8),
     Closed,

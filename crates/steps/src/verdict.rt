@@ -1,5 +1,5 @@
 // What a walk through step words comes to: closed, with the place of the next word, or refused.
-#[derive(Drop)]
+#[derive(Clone, Copy)]
 pub enum WalkVerdict {
     Closed(usize),
     Refused { number: u8, place: usize },

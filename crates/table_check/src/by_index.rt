@@ -25,7 +25,7 @@ fn key_of(head: u16, second: u16) -> usize
 }
 
 // What became of an entry that was to be taken into the index: it is in, and so many entries were passed on its path.
-#[derive(Drop)]
+#[derive(Clone, Copy)]
 pub enum Taken {
     In(usize),
     Repeated,
@@ -59,7 +59,7 @@ fn take_in(heads: &[u16], seconds: &[u16], slots: &mut [u16], roots: usize, i: u
 }
 
 // How the search by an index ended: with an answer, or where too many entries had been passed.
-#[derive(Drop)]
+#[derive(Clone, Copy)]
 pub enum Search {
     Ended(Place),
     GivenUp,

@@ -42,7 +42,7 @@ fn hold_last(slots: &mut [u16], held: usize, more: usize, added: Added) -> usize
 }
 
 // The goal, the place of the next word, the depth of its step, and the count of hypotheses held.
-#[derive(Drop)]
+#[derive(Clone, Copy)]
 pub(crate) struct Walk {
     pub goal: Goal,
     pub next: usize,
@@ -51,7 +51,7 @@ pub(crate) struct Walk {
 }
 
 // The walk after the last word of a proof of its goal, or a refusal.
-#[derive(Drop)]
+#[derive(Clone, Copy)]
 pub(crate) enum Walked {
     Done(Walk),
     Refused { number: u8, place: usize },
@@ -97,7 +97,7 @@ impl Walk {
     }
 
     // Checks a truth. What is lent to the calls is a copy of what the loop reads, so that the loop has it at hand.
-    #[cycle(affirmation_truth)]
+    #[cycle(walk)]
     pub(crate) fn truth(
         self,
         heads: &[u16],
@@ -212,7 +212,7 @@ impl Walk {
     }
 
     // Checks an affirmation.
-    #[cycle(affirmation_truth)]
+    #[cycle(walk)]
     fn affirmation(self, heads: &[u16], seconds: &[u16], steps: &[u16], slots: &mut [u16]) -> Walked
         requires affirmation { Walks.IsAffirmation self.goal }
         requires ready { Walks.Ready (entries heads.now seconds.now) slots.old self.held }

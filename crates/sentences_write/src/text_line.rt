@@ -19,6 +19,7 @@ use text::decimal::fill_decimal;
 use text::fill::fill;
 
 // Whether the rule of a code names a formula.
+#[tactic(auto, unfolding(steps::specs::Naming::is_naming))]
 pub(crate) fn is_naming(code: u16) -> bool
     ensures { result ≡ is_naming code }
 {
