@@ -4,14 +4,14 @@ use Rattle.std.specs.Prelude.{ℕ, List}
 use Rattle.logic.specs.Figure1.{Same}
 use Rattle.steps.specs.Figure1.{same}
 use Rattle.record.specs.declared.verdict.RecordVerdict.{RecordVerdict}
-use Rattle.demands.specs.Release as Any
+use Rattle.demands.specs.Release as Every
 use Rattle.demands.specs.Demands.{Demands}
 
 abbrev pub GrantedWithSigners : List ℕ → RecordVerdict → List ℕ → List ℕ → Type 0
-GrantedWithSigners file answer before after = Any.GrantedWithSigners Same file answer before after
+GrantedWithSigners file answer before after = Every.GrantedWithSigners Same file answer before after
 
 abbrev pub RefusedUntouched : List ℕ → RecordVerdict → List ℕ → List ℕ → Type 0
-RefusedUntouched file answer before after = Any.RefusedUntouched same file answer before after
+RefusedUntouched file answer before after = Every.RefusedUntouched same file answer before after
 
 abbrev pub Demanded : Type 0
 Demanded = Demands same Same

@@ -8,20 +8,20 @@ use Rattle.table.specs.declared.entry.Entry.{Entry}
 use Rattle.steps.specs.declared.verdict.WalkVerdict.{WalkVerdict}
 use Rattle.steps.specs.Figure1.{same}
 use Rattle.exchange.specs.declared.verdict.ExchangeVerdict.{ExchangeVerdict}
-use Rattle.exchange.specs.Answer as Any
+use Rattle.exchange.specs.Answer as Every
 use Rattle.exchange.specs.Proofs as AnyProofs
 use Rattle.exchange.specs.Reasons as AnyReasons
 use Rattle.exchange.specs.Force as AnyForce
 use Rattle.exchange.specs.Promises as Promises
 
 abbrev pub step_verdict : List ℕ → WalkVerdict
-step_verdict file = Any.step_verdict same file
+step_verdict file = Every.step_verdict same file
 
 abbrev pub tests : List ℕ → List Test
-tests file = Any.tests same file
+tests file = Every.tests same file
 
 abbrev pub exchange_answer : List ℕ → ExchangeVerdict
-exchange_answer file = Any.exchange_answer same file
+exchange_answer file = Every.exchange_answer same file
 
 abbrev pub CarriesAll : List ℕ → Type 0
 CarriesAll file = AnyProofs.CarriesAll Same file

@@ -4,7 +4,7 @@
 use Rattle.std.specs.Prelude.{ℕ, ◌+◌, ◌*◌, ◌≡◌, List, [], ◌∷◌}
 use Rattle.basics.specs.Limits.{most_formulas, most_statements, most_steps}
 use Rattle.file.specs.Words.{word_at, part}
-use Rattle.file.specs.Layout as Any
+use Rattle.file.specs.Layout as Every
 use Rattle.file.specs.Layout.{Layout, range, part_of}
 use Rattle.table.specs.declared.entry.Entry.{Entry}
 use Rattle.table.specs.Tests.{entries}
@@ -47,10 +47,10 @@ steps file = part_of exchange_layout file 4
 
 -- the length in bytes that a file's sizes ask for, and that of the longest exchange file
 abbrev pub size : List ℕ → ℕ
-size file = Any.bytes exchange_layout file
+size file = Every.bytes exchange_layout file
 
 abbrev pub most_bytes : ℕ
-most_bytes = Any.most_bytes exchange_layout
+most_bytes = Every.most_bytes exchange_layout
 
 -- The same in 01's numbers: where each array stands, and "2 × (4 + 2F + S1 + S2 + N) bytes", at most 50,184. Proved in
 -- proofs/LayoutIs.antt.
@@ -62,7 +62,7 @@ pub record LayoutIs (file : List ℕ) : Type 0 where
   pub steps_at : steps file ≡ part file (4 + 2 * formulas file + first_count file + second_count file) (step_count file)
   pub size_is : size file ≡ 2 * (4 + 2 * formulas file + first_count file + second_count file + step_count file)
   pub most_is : most_bytes ≡ 50184
-  pub least_is : Any.least_bytes exchange_layout ≡ 8
+  pub least_is : Every.least_bytes exchange_layout ≡ 8
 
 -- the table taken apart
 abbrev pub table : List ℕ → List Entry

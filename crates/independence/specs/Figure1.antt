@@ -7,7 +7,7 @@ use Rattle.logic.specs.Figure1.{Same}
 use Rattle.steps.specs.Figure1.{same}
 use Rattle.independence.specs.declared.verdict.IndependenceVerdict.{IndependenceVerdict}
 use Rattle.independence.specs.Test as AnyTest
-use Rattle.independence.specs.Answer as Any
+use Rattle.independence.specs.Answer as Every
 use Rattle.independence.specs.SameProofs as AnyProofs
 use Rattle.independence.specs.Promises as Promises
 
@@ -15,7 +15,7 @@ abbrev pub is_independent : ℕ → List Proposition → Proposition → Bool
 is_independent K Γ C = AnyTest.is_independent same K Γ C
 
 abbrev pub independence_answer : List ℕ → ℕ → IndependenceVerdict
-independence_answer file K = Any.independence_answer same file K
+independence_answer file K = Every.independence_answer same file K
 
 -- ---- job 5
 

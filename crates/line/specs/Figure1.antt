@@ -2,25 +2,25 @@
 -- Proved in proofs/Figure1.antt. Assumes nothing.
 use Rattle.std.specs.Prelude.{ℕ, List}
 use Rattle.steps.specs.Figure1.{same}
-use Rattle.line.specs.Printed as Any
+use Rattle.line.specs.Printed as Every
 
 abbrev pub printed_line : List ℕ → List ℕ
-printed_line file = Any.printed_line same file
+printed_line file = Every.printed_line same file
 
 abbrev pub LineOfCall : Type 0
-LineOfCall = Any.LineOfCall same
+LineOfCall = Every.LineOfCall same
 
 abbrev pub OneLine : Type 0
-OneLine = Any.OneLine same
+OneLine = Every.OneLine same
 
 abbrev pub LineOfGrant : Type 0
-LineOfGrant = Any.LineOfGrant same
+LineOfGrant = Every.LineOfGrant same
 
 abbrev pub WholeLine : Type 0
-WholeLine = Any.WholeLine same
+WholeLine = Every.WholeLine same
 
 abbrev pub WholeExchangeLine : Type 0
-WholeExchangeLine = Any.WholeExchangeLine same
+WholeExchangeLine = Every.WholeExchangeLine same
 
 abbrev pub WholeIndependenceLine : Type 0
-WholeIndependenceLine = Any.WholeIndependenceLine same
+WholeIndependenceLine = Every.WholeIndependenceLine same

@@ -7,7 +7,7 @@ use Rattle.logic.specs.Figure1.{Same}
 use Rattle.steps.specs.declared.verdict.WalkVerdict.{WalkVerdict}
 use Rattle.steps.specs.Figure1.{same}
 use Rattle.record.specs.declared.verdict.RecordVerdict.{RecordVerdict}
-use Rattle.record.specs.Answer as Any
+use Rattle.record.specs.Answer as Every
 use Rattle.record.specs.Proof as AnyProof
 use Rattle.record.specs.Carries as AnyCarries
 use Rattle.record.specs.Reasons as AnyReasons
@@ -15,13 +15,13 @@ use Rattle.record.specs.Promises as Promises
 use Rattle.record.specs.Papers as AnyPapers
 
 abbrev pub step_verdict : List ℕ → WalkVerdict
-step_verdict file = Any.step_verdict same file
+step_verdict file = Every.step_verdict same file
 
 abbrev pub tests : List ℕ → ℕ → List Test
-tests file room = Any.tests same file room
+tests file room = Every.tests same file room
 
 abbrev pub record_answer : List ℕ → ℕ → RecordVerdict
-record_answer file room = Any.record_answer same file room
+record_answer file room = Every.record_answer same file room
 
 abbrev pub IsProof : List ℕ → Type 0
 IsProof file = AnyProof.IsProof Same file

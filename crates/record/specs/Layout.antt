@@ -5,7 +5,7 @@
 use Rattle.std.specs.Prelude.{ℕ, ◌+◌, ◌*◌, ◌≡◌, List, [], ◌∷◌}
 use Rattle.basics.specs.Limits.{most_formulas, most_statements, most_steps}
 use Rattle.file.specs.Words.{word_at, part}
-use Rattle.file.specs.Layout as Any
+use Rattle.file.specs.Layout as Every
 use Rattle.file.specs.Layout.{Layout, range, unranged, part_of}
 use Rattle.table.specs.declared.entry.Entry.{Entry}
 use Rattle.table.specs.Tests.{entries}
@@ -47,10 +47,10 @@ steps file = part_of record_layout file 3
 
 -- the length in bytes that a file's sizes ask for, and that of the longest record
 abbrev pub size : List ℕ → ℕ
-size file = Any.bytes record_layout file
+size file = Every.bytes record_layout file
 
 abbrev pub most_bytes : ℕ
-most_bytes = Any.most_bytes record_layout
+most_bytes = Every.most_bytes record_layout
 
 -- The same in 01's numbers: where each array stands, and "The length is 2 × (4 + 2F + S + N) bytes, at most 49,672."
 -- Proved in proofs/LayoutIs.antt.
@@ -61,7 +61,7 @@ pub record LayoutIs (file : List ℕ) : Type 0 where
   pub steps_at : steps file ≡ part file (4 + 2 * formulas file + statement_count file) (step_count file)
   pub size_is : size file ≡ 2 * (4 + 2 * formulas file + statement_count file + step_count file)
   pub most_is : most_bytes ≡ 49672
-  pub least_is : Any.least_bytes record_layout ≡ 8
+  pub least_is : Every.least_bytes record_layout ≡ 8
 
 -- the table taken apart
 abbrev pub table : List ℕ → List Entry

@@ -7,24 +7,24 @@ use Rattle.steps.specs.Trace.{Line}
 use Rattle.steps.specs.Figure1.{same}
 use Rattle.record.specs.declared.verdict.RecordVerdict.{RecordVerdict}
 use Rattle.sentences.specs.declared.verdict.SentencesVerdict.{SentencesVerdict}
-use Rattle.sentences.specs.Answer as Any
+use Rattle.sentences.specs.Answer as Every
 use Rattle.sentences.specs.Printed as AnyPrinted
 use Rattle.sentences.specs.Promises as Promises
 
 abbrev pub record_lines : List ℕ → List Line
-record_lines file = Any.record_lines same file
+record_lines file = Every.record_lines same file
 
 abbrev pub record_text : List ℕ → List ℕ
-record_text file = Any.record_text same file
+record_text file = Every.record_text same file
 
 abbrev pub sentences_answer : List ℕ → ℕ → ℕ → SentencesVerdict
-sentences_answer file room bytes = Any.sentences_answer same file room bytes
+sentences_answer file room bytes = Every.sentences_answer same file room bytes
 
 abbrev pub text_after : List ℕ → SentencesVerdict → List ℕ → List ℕ
-text_after file answer before = Any.text_after same file answer before
+text_after file answer before = Every.text_after same file answer before
 
 abbrev pub after_record : List ℕ → ℕ → RecordVerdict → SentencesVerdict
-after_record file bytes verdict = Any.after_record same file bytes verdict
+after_record file bytes verdict = Every.after_record same file bytes verdict
 
 abbrev pub printed_for : List ℕ → SentencesVerdict → List ℕ
 printed_for file answer = AnyPrinted.printed_for same file answer
@@ -35,7 +35,7 @@ printed_text file bytes = AnyPrinted.printed_text same file bytes
 -- ---- job 2
 
 abbrev pub AnswerAfterRecord : Type 0
-AnswerAfterRecord = Any.AnswerAfterRecord same
+AnswerAfterRecord = Every.AnswerAfterRecord same
 
 abbrev pub TextOfDerivation : Type 0
 TextOfDerivation = Promises.TextOfDerivation same Same

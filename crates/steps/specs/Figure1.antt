@@ -7,7 +7,7 @@ use Rattle.table.specs.declared.entry.Entry.{Entry}
 use Rattle.steps.specs.declared.opened.Opened.{Opened}
 use Rattle.steps.specs.declared.verdict.WalkVerdict.{WalkVerdict}
 use Rattle.steps.specs.Obligation.{Obligation}
-use Rattle.steps.specs.Step as Any
+use Rattle.steps.specs.Step as Every
 use Rattle.steps.specs.Run as AnyRun
 use Rattle.steps.specs.Stops as AnyStops
 use Rattle.steps.specs.Alike as AnyAlike
@@ -27,7 +27,7 @@ same K L = eqb K L
 -- ---- the machine
 
 abbrev pub step : List Entry → ℕ → Obligation → Opened
-step es w o = Any.step same es most_depth w o
+step es w o = Every.step same es most_depth w o
 
 abbrev pub walk : List Entry → List ℕ → ℕ → List Obligation → WalkVerdict
 walk es ws p os = AnyRun.walk same most_depth es ws p os

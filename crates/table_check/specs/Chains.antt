@@ -52,5 +52,5 @@ module _ (heads : List ℕ) where
     pub record FirstOfHead (head bound found : ℕ) : Type 0 where
       pub within : found ≤ bound
       pub has_head : found < bound → get_or heads found 0 ≡ head
-      pub is_repeated_lem : found < bound → is_repeated heads seconds found ≡ true
+      pub repeated : found < bound → is_repeated heads seconds found ≡ true
       pub none_before : (k : ℕ) → k < found → get_or heads k 0 ≡ head → is_repeated heads seconds k ≡ false
