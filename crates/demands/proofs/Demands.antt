@@ -13,7 +13,7 @@ use Rattle.exchange.specs.Proofs.{Keeps, CarriesAll}
 use Rattle.exchange.proofs.Force.{force_by_statements, goal_kept_lem}
 use Rattle.exchange.proofs.Equal.{equal_exactly, equal_only_in_force}
 use Rattle.exchange.proofs.Reasons.{refused_exactly}
-use Rattle.exchange.proofs.Kept.{never_six_or_eight}
+use Rattle.exchange.proofs.NeverSixOrEight.{never_six_or_eight}
 use Rattle.encoding.proofs.Record.{every_proof_has_a_record}
 use Rattle.encoding.proofs.Released.{released_exactly}
 use Rattle.encoding.proofs.Exchange.{every_exchange_has_a_file}

@@ -21,7 +21,7 @@ use Rattle.steps.specs.Naming.{is_naming, named_numbers}
 use Rattle.signers.specs.Signers.{principals, used}
 use Rattle.record.specs.declared.verdict.RecordVerdict.TheVariants.{Granted, Refused}
 use Rattle.record.specs.Layout.{signers}
-use Rattle.record.specs.Answer as Any
+use Rattle.record.specs.Answer as Every
 use Rattle.record.specs.Proof.{stated_by}
 use Rattle.record.specs.Carries.{Carries}
 use Rattle.record.specs.Figure1.{record_answer, IsProof}
@@ -37,7 +37,7 @@ stated_by_A = refl
 
 -- It is granted, so there is a proof, and 7 carries it;
 granted_A : record_answer bytes_of_a 1 ≡ Granted 1
-unfolding Any.record_answer file_words first_refusal wrong_entry repeated_entry first_place into principals used named_numbers
+unfolding Every.record_answer file_words first_refusal wrong_entry repeated_entry first_place into principals used named_numbers
     is_naming run walk step opens holds entries entry
 granted_A = refl
 
@@ -75,7 +75,7 @@ grant_of_a answer before after g =
 -- ---- C
 
 answer_to_C : record_answer (file_of (over_t (1 ∷ []) 0 (45057 ∷ []))) 1 ≡ Refused 14 0
-unfolding Any.record_answer file_words file_of first_refusal wrong_entry repeated_entry first_place into principals used
+unfolding Every.record_answer file_words file_of first_refusal wrong_entry repeated_entry first_place into principals used
     named_numbers is_naming run walk step opens holds entries entry
 answer_to_C = refl
 

@@ -8,6 +8,7 @@ use Rattle.exchange.proofs.Equal as Equal
 use Rattle.exchange.proofs.Positions as Positions
 use Rattle.exchange.proofs.Reasons as Reasons
 use Rattle.exchange.proofs.Kept as Kept
+use Rattle.exchange.proofs.NeverSixOrEight as Never
 use Rattle.exchange.proofs.Small as Small
 use Rattle.exchange.proofs.Longer as Longer
 
@@ -27,7 +28,7 @@ pub refused_exactly : RefusedExactly
 refused_exactly = Reasons.refused_exactly same
 
 pub never_six_or_eight : NeverSixOrEight
-never_six_or_eight = Kept.never_six_or_eight same
+never_six_or_eight = Never.never_six_or_eight same
 
 pub keeps_exactly : KeepsExactly
 keeps_exactly = Kept.keeps_exactly same

@@ -6,7 +6,7 @@ use mathlib.Core.List.Memᴰ
 use mathlib.Core.List.{List, ◌++◌, map-append}
 use Rattle.basics.specs.Membership.{◌∈◌, ◌⊆◌}
 use Rattle.logic.specs.Principals.{Relation, Reflexive, Transitive}
-use Rattle.logic.specs.Force as Any
+use Rattle.logic.specs.Force as Every
 use Rattle.logic.specs.Force.{HasProof}
 use Rattle.logic.proofs.Promises.{for_every_relation}
 use Rattle.table.specs.declared.entry.Entry.{Entry}
@@ -16,13 +16,13 @@ use Rattle.exchange.specs.Force.{EachHasProof, ForceByStatements, GoalKept}
 module _ (R : Relation) (es : List Entry) where
   -- A proof for each number is one for each proposition that the list spells,
   pub each_spelled : (first second : List ℕ) → EachHasProof R es first second
-      → Any.EachHasProof R (spell_all es first) (spell_all es second)
+      → Every.EachHasProof R (spell_all es first) (spell_all es second)
   each_spelled first second proofs A m =
       let (n, stands, is) =
       Memᴰ.of_map (spell es) first m in subst (HasProof R (spell_all es second)) is (proofs n stands)
 
   -- and the other way round.
-  each_number : (first second : List ℕ) → Any.EachHasProof R (spell_all es first) (spell_all es second)
+  each_number : (first second : List ℕ) → Every.EachHasProof R (spell_all es first) (spell_all es second)
       → EachHasProof R es first second
   each_number first second proofs n m = proofs (spell es n) (Memᴰ.map (spell es) m)
 

@@ -1,9 +1,9 @@
--- A file keeps the layout and its limits exactly when no reason of 1 to 5 and 7 applies, and no reason has the number 6
--- or 8 (specs/Promises.antt, `KeepsExactly` and `NeverSixOrEight`). Assumes nothing.
+-- A file keeps the layout and its limits exactly when no reason of 1 to 5 and 7 applies (specs/Promises.antt,
+-- `KeepsExactly`). Assumes nothing.
 use Prim.Native.Nat.{ℕ, ◌≤◌}
 use native.Mathlib.Omega.{arith}
 use mathlib.Core.Bool.{Bool}
-use mathlib.Core.Path.{◌≡◌, refl, sym}
+use mathlib.Core.Path.{sym}
 use mathlib.Core.Logic.{◌↔◌, ◌⊎◌, inl, inr, ⊎_elim}
 use mathlib.Core.List.{List, [], ◌∷◌}
 use Rattle.basics.specs.Refusals.{Test, test}
@@ -14,11 +14,11 @@ use Rattle.table.specs.Tests.{entry_tests}
 use Rattle.table.proofs.Reasons.{entry_reasons, entry_small}
 use Rattle.exchange.specs.Layout.{exchange_layout, heads, seconds}
 use Rattle.exchange.specs.Answer.{statement_outside}
-use Rattle.exchange.specs.Reasons.{Reason, layout_broken, table_broken, statement_outside, stops}
-use Rattle.exchange.specs.Promises.{KeepsExactly, NeverSixOrEight}
+use Rattle.exchange.specs.Reasons.{Reason, layout_broken, table_broken, statement_outside as statement_outside_reason, stops}
+use Rattle.exchange.specs.Promises.{KeepsExactly}
 use Rattle.exchange.proofs.LayoutIs.{ranges_are}
 use Rattle.exchange.proofs.Keeps.{to_7, none_to_7}
-use Rattle.exchange.proofs.Reasons.{stop_small, seven, refused_exactly}
+use Rattle.exchange.proofs.Reasons.{stop_small, seven}
 
 module _ (speaks : ℕ → ℕ → Bool) (file : List ℕ) (number p : ℕ) where
   abbrev test_7 : List Test
@@ -34,7 +34,7 @@ module _ (speaks : ℕ → ℕ → Bool) (file : List ℕ) (number p : ℕ) wher
   to_test : number ≤ 7 → Reason speaks file number p → OneApplies (to_7 file) number p
   to_test few (layout_broken r) = joined.1 (inl ((layout_reasons exchange_layout file (ranges_are file) number p).0 r))
   to_test few (table_broken r) = joined.1 (inr (inl ((entry_reasons (heads file) (seconds file) number p).0 r)))
-  to_test few (statement_outside n is) = joined.1 (inr (inr (inl (sym n, (seven speaks file number p).1 is))))
+  to_test few (statement_outside_reason n is) = joined.1 (inr (inr (inl (sym n, (seven speaks file number p).1 is))))
   to_test few (stops s) = let (least, most, within) = stop_small speaks file number p s in absurd (omega arith)
 
   -- and each of these tests is such a reason.
@@ -51,24 +51,11 @@ module _ (speaks : ℕ → ℕ → Bool) (file : List ℕ) (number p : ℕ) wher
       (omega arith, table_broken r)
 
   from_seven : OneApplies test_7 number p → (number ≤ 7) × Reason speaks file number p
-  from_seven (inl (n, at)) = (omega arith, statement_outside (sym n) ((seven speaks file number p).0 at))
+  from_seven (inl (n, at)) = (omega arith, statement_outside_reason (sym n) ((seven speaks file number p).0 at))
   from_seven (inr none) = absurd none
 
   from_test : OneApplies (to_7 file) number p → (number ≤ 7) × Reason speaks file number p
   from_test one = ⊎_elim from_layout (⊎_elim from_table from_seven) (joined.0 one)
-
-  -- No reason has the number 6 or 8.
-  other_number : Reason speaks file number p → (¬ (number ≡ 6)) × (¬ (number ≡ 8))
-  other_number (layout_broken r) =
-      let (least, most, z) = layout_small r in
-      (λ e. omega arith, λ e. omega arith)
-  other_number (table_broken r) =
-      let (least, most, within) = entry_small (heads file) (seconds file) number p r in
-      (λ e. omega arith, λ e. omega arith)
-  other_number (statement_outside n is) = (λ e. omega arith, λ e. omega arith)
-  other_number (stops s) =
-      let (least, most, within) = stop_small speaks file number p s in
-      (λ e. omega arith, λ e. omega arith)
 
 pub keeps_exactly : (speaks : ℕ → ℕ → Bool) → KeepsExactly speaks
 keeps_exactly speaks file =
@@ -79,9 +66,3 @@ keeps_exactly speaks file =
           keeps (has_none (λ number p one. let (few, r) =
           from_test speaks file number p one in no_reason number p few r)),
     )
-
-pub never_six_or_eight : (speaks : ℕ → ℕ → Bool) → NeverSixOrEight speaks
-never_six_or_eight speaks file p = (
-  λ e. (other_number speaks file 6 p ((refused_exactly speaks file 6 p).0 e).applies).0 refl,
-  λ e. (other_number speaks file 8 p ((refused_exactly speaks file 8 p).0 e).applies).1 refl,
-)

@@ -9,6 +9,7 @@ pub mod Equal
 pub mod Positions
 pub mod Reasons
 pub mod Kept
+pub mod NeverSixOrEight
 pub mod Small
 pub mod Longer
 pub mod Figure1

@@ -26,7 +26,7 @@ use Rattle.steps.proofs.Stops.{refused_where}
 use Rattle.steps.proofs.Alike.{refused_in_range}
 use Rattle.exchange.specs.Layout.{exchange_layout, formulas, heads, seconds, first_list, second_list, steps, table}
 use Rattle.exchange.specs.Answer.{statement_outside, obligations_of, tests, step_verdict}
-use Rattle.exchange.specs.Reasons.{Reason, layout_broken, table_broken, statement_outside, stops}
+use Rattle.exchange.specs.Reasons.{Reason, layout_broken, table_broken, statement_outside as statement_outside_reason, stops}
 use Rattle.exchange.specs.Promises.{RefusedExactly}
 use Rattle.exchange.proofs.LayoutIs.{ranges_are}
 use Rattle.exchange.proofs.Answered.{answer_refused}
@@ -71,12 +71,12 @@ module _ (speaks : ℕ → ℕ → Bool) (file : List ℕ) (number p : ℕ) wher
   from_reason : Reason speaks file number p → OneApplies (tests speaks file) number p
   from_reason (layout_broken r) = joined.1 (inl ((layout_reasons exchange_layout file (ranges_are file) number p).0 r))
   from_reason (table_broken r) = joined.1 (inr (inl ((entry_reasons (heads file) (seconds file) number p).0 r)))
-  from_reason (statement_outside n is) = later (inl (sym n, seven.1 is))
+  from_reason (statement_outside_reason n is) = later (inl (sym n, seven.1 is))
   from_reason (stops s) =
       later (inr ((walked_applies (step_verdict speaks file) number p).1 ((walk_stops speaks file number p).1 s)))
 
   from_7_reason : OneApplies from_7 number p → Reason speaks file number p
-  from_7_reason (inl (n, at)) = statement_outside (sym n) (seven.0 at)
+  from_7_reason (inl (n, at)) = statement_outside_reason (sym n) (seven.0 at)
   from_7_reason (inr walk) =
       stops ((walk_stops speaks file number p).0 ((walked_applies (step_verdict speaks file) number p).0 walk))
 

@@ -13,7 +13,7 @@ use Rattle.steps.specs.Figure1.{same}
 use Rattle.exchange.specs.declared.verdict.ExchangeVerdict.{ExchangeVerdict}
 use Rattle.exchange.specs.declared.verdict.ExchangeVerdict.TheVariants.{Equal, Refused}
 use Rattle.exchange.specs.Layout.{exchange_layout, heads, seconds, first_list, second_list, steps}
-use Rattle.exchange.specs.Answer as Any
+use Rattle.exchange.specs.Answer as Every
 use Rattle.exchange.specs.Figure1.{tests, exchange_answer}
 use Rattle.exchange.specs.Proofs.{Sized}
 use Rattle.exchange.proofs.LayoutIs.{sized}
@@ -54,7 +54,7 @@ module _ (file : List ℕ) where
     answers :
         arrays_answer (heads file) (seconds file) (first_list file ++ second_list file) (first_list file) (second_list file) (steps file)
         ≡ exchange_answer file
-    unfolding Any.exchange_answer
+    unfolding Every.exchange_answer
     answers = ap (λ (t : Tested). unless_refused Refused t Equal) tests_from_4
 
     -- so what the code answers over the parts that it took

@@ -63,7 +63,7 @@ module _ (layout : Layout) (file : List ℕ) where
       let long = at0_nowhere _ (not_less (length file) (least_bytes layout)) in
       let fit = at0_nowhere _ (not_other (in_range layout file) in_range_lem) in
       let is = at0_nowhere _ (not_other _ (equal (length file) (bytes layout file))) in (
-        λ (one, (two, (three, _))). record { in_range_lem = fit.0 two; length_is = is.0 three },
+        λ (one, (two, (three, _))). record { in_range = fit.0 two; length_is = is.0 three },
         λ s. let e = s.length_is in (long.1 (omega (arith, some_bytes)), (fit.1 s.in_range, (is.1 e, tt))),
       )
 
@@ -140,14 +140,14 @@ module _ (layout : Layout) (bounded : Bounded layout) where
   least_most = omega (arith, plus_least (length layout.fields) (map (λ i. most (get_or layout.fields i unranged)) layout.parts))
 
   -- A longer file is refused by 2 or 3, whatever follows.
-  pub too_long_lem : (file : List ℕ) (fit : Bool) → in_range layout file ≡ fit → most_bytes layout < length file
+  pub too_long : (file : List ℕ) (fit : Bool) → in_range layout file ≡ fit → most_bytes layout < length file
       → (rest : List Test) → first_refusal (layout_tests layout file ++ rest) ≡ pick fit (Refused 3 0) (Refused 2 0)
-  too_long_lem file true e long rest =
+  too_long file true e long rest =
       let few = at_most_bytes file ((in_range_lem layout file).0 e) in
       goes_on_at_0 1 _ (le-ltb (length file) (least_bytes layout) (omega (arith, least_most)))
       ∙ goes_on_at_0 2 _ (ap not e)
       ∙ applies_at_0 3 _ (ap not (ne_eqb (length file) (bytes layout file) (λ is. omega arith)))
-  too_long_lem file false e long rest =
+  too_long file false e long rest =
       goes_on_at_0 1 _ (le-ltb (length file) (least_bytes layout) (omega (arith, least_most))) ∙ applies_at_0 2 _ (ap not e)
 
   -- A file's first bytes have its fields.
@@ -163,7 +163,7 @@ module _ (layout : Layout) (bounded : Bounded layout) where
       let front : List ℕ = take n file in
       let is : length front ≡ n = length-take-le n file (omega arith) in
       let same = fit_prefix layout.fields n file 0 (omega (arith, least_most)) in
-      too_long_lem file (in_range layout file) refl long rest ∙ sym (too_long_lem front (in_range layout file) same (omega arith) other)
+      too_long file (in_range layout file) refl long rest ∙ sym (too_long front (in_range layout file) same (omega arith) other)
 
 pub longer_refused : LongerRefused
 longer_refused = longer

@@ -25,10 +25,10 @@ module _ (file : List ℕ) (least : ℕ) (fit : Bool) (size : ℕ) where
     pub refused_2 : fit ≡ false → Refused 2 0 ≡ first_refusal (tests_by file least fit size)
     refused_2 e = sym (after_1 ∙ applies_at_0 2 _ (ap not e))
 
-    module _ (in_range_lem : fit ≡ true) where
+    module _ (in_range : fit ≡ true) where
       -- 2 goes on to 3
       after_2 : first_refusal (tests_by file least fit size) ≡ first_refusal (test 3 (at0 (not (eqb (length file) size))) ∷ [])
-      after_2 = after_1 ∙ goes_on_at_0 2 _ (ap not in_range_lem)
+      after_2 = after_1 ∙ goes_on_at_0 2 _ (ap not in_range)
 
       pub refused_3 : length file ≢ size → Refused 3 0 ≡ first_refusal (tests_by file least fit size)
       refused_3 other = sym (after_2 ∙ applies_at_0 3 _ (ap not (ne_eqb _ _ other)))

@@ -28,13 +28,15 @@ unfolding held_all
 shown_all {s} {held} [] i live l = rw append-nil
 shown_all {s} {held} (n ∷ ns) i live l =
     let more = shown_hold n i live l in
-    shown_all ns i (live_hold n live) (omega (arith, half_hold s held n))
+    shown_all {s = held_one s held n} {held = count_one s held n} ns i (live_hold n live)
+    (omega (arith, half_hold s held n))
     ∙ rw (holds_append (shown (held_one s held n)) ns i, more, ← holds_append (shown s ++ (n ∷ [])) ns i, append_snoc)
 
 pub live_all : {s : List ℕ} {held : ℕ} (ns : List ℕ) → Live s held → Live (held_all s held ns) (count_all s held ns)
 unfolding held_all count_all
-live_all [] live = live
-live_all (n ∷ ns) live = live_all ns (live_hold n live)
+live_all {s} {held} [] live = live
+live_all {s} {held} (n ∷ ns) live =
+    live_all {s = held_one s held n} {held = count_one s held n} ns (live_hold n live)
 
 pub half_all : (s : List ℕ) (held : ℕ) (ns : List ℕ) → half (held_all s held ns) ≡ half s
 unfolding held_all

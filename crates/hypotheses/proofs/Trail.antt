@@ -69,6 +69,7 @@ marked_most s (suc n) =
 -- and fewer where one isn't marked
 marked_fewer : (s : List ℕ) (n i : ℕ) → i < n → get_or s i 0 ≡ 0 → marked s n < n
 unfolding marked
+marked_fewer s zero i l e = elim l [ ]
 marked_fewer s (suc n) i l e =
     pick_cases (λ (k : ℕ). marked s n + k < suc n) (eqb (get_or s n 0) 0)
     (λ f. omega (arith, marked_most s n))
@@ -87,6 +88,7 @@ marked_same s t (suc n) same = rw (same n (omega arith), marked_same s t n (λ i
 marked_more : (s t : List ℕ) (n i : ℕ) → i < n → get_or s i 0 ≡ 0 → get_or t i 0 ≡ 1
     → ((j : ℕ) → j < n → ¬ (j ≡ i) → get_or t j 0 ≡ get_or s j 0) → marked t n ≡ marked s n + 1
 unfolding marked
+marked_more s t zero i l e f same = elim l [ ]
 marked_more s t (suc n) i l e f same = decide (eqb i n)
     (λ q.
     let is = eqb-true i n q in

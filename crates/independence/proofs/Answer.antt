@@ -25,7 +25,7 @@ use Rattle.record.proofs.Kept.{reasons_to_7}
 use Rattle.independence.specs.declared.verdict.IndependenceVerdict.TheVariants.{Independent, NotIndependent, Refused}
 use Rattle.independence.specs.Test.{is_independent}
 use Rattle.independence.specs.Answer.{principal_outside, tests, independence_answer}
-use Rattle.independence.specs.Promises.{IndependentExactly, NotIndependentExactly, independence_order, IndependenceReason, of_record, principal_outside, RefusedExactly}
+use Rattle.independence.specs.Promises.{IndependentExactly, NotIndependentExactly, independence_order, IndependenceReason, of_record, principal_outside as principal_outside_reason, RefusedExactly}
 use Rattle.independence.proofs.Test.{independent_is, touching_is}
 
 -- ---- what the tests come to
@@ -106,10 +106,10 @@ module _ (speaks : ℕ → ℕ → Bool) (file : List ℕ) (K : ℕ) where
 
     to_test : IndependenceReason speaks file K number p → OneApplies (tests file K) number p
     to_test (of_record few r) = joined.1 (inl ((reasons_to_7 speaks file 0 number p).0 (few, r)))
-    to_test (principal_outside n z l) = joined.1 (inr (inl (inl (sym n, seventeen.1 (z, l)))))
+    to_test (principal_outside_reason n z l) = joined.1 (inr (inl (inl (sym n, seventeen.1 (z, l)))))
 
     of_last : OneApplies (test 17 (principal_outside K) ∷ []) number p → IndependenceReason speaks file K number p
-    of_last (inl (n, at)) = let (z, l) = seventeen.0 at in principal_outside (sym n) z l
+    of_last (inl (n, at)) = let (z, l) = seventeen.0 at in principal_outside_reason (sym n) z l
     of_last (inr none) = absurd none
 
     from_test : OneApplies (tests file K) number p → IndependenceReason speaks file K number p

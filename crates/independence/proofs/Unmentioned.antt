@@ -23,7 +23,7 @@ use Rattle.independence.specs.Unmentioned.{mentioned, mentioned_in, SpeaksForNon
 use Rattle.independence.proofs.SameProofs.{NoneIn, Clear, AllKept, moved}
 
 -- Whose says-formula stands in a proposition, he is mentioned there.
-stands_mentioned : {L : Principal} {B A : Proposition} {t s : Side} → Stands (L says B) t A s → L ∈ mentioned A
+stands_mentioned : {L : Principal} {B : Proposition} {t : Side} {A : Proposition} {s : Side} → Stands (L says B) t A s → L ∈ mentioned A
 stands_mentioned itself = first
 stands_mentioned (left_of_implies {C = C} i) = ⊆_left (mentioned C) _ (stands_mentioned i)
 stands_mentioned (right_of_implies {A = A} i) = ⊆_right (mentioned A) _ (stands_mentioned i)

@@ -1,17 +1,16 @@
--- What a formula's mark says: laws for `marks_of`, kind by kind, and for `is_own`. Assumes nothing.
+-- What a formula's mark says: laws for `marks_of`, kind by kind. Assumes nothing.
 use Prim.Native.Nat.{ℕ}
 use mathlib.Core.Bool.{Bool, false, ◌||◌}
 use mathlib.Core.Path.{◌≡◌, refl, sym, ap, ap₂, ◌∙◌}
-use mathlib.Core.List.{List, [], ◌∷◌, map}
-use lib.ListN.{length, get_or, take, length-map, get_or-map}
-use types.Run.{OneOf, miss}
-use denote.Enum.Declared.{tag_of}
+use mathlib.Core.Logic.{◌⊎◌, ⊎_elim}
+use mathlib.Core.List.{List, map}
+use lib.ListN.{length, get_or, take, get_or-map, length-map}
 use Rattle.logic.specs.Proposition.{Proposition, false as falsum}
 use Rattle.logic.specs.Sides.{Side, proving}
 use Rattle.table.specs.declared.entry.Formula.{Formula}
+use Rattle.table.specs.declared.entry.Principal.{Principal}
 use Rattle.table.specs.declared.entry.Entry.{Entry}
 use Rattle.table.specs.declared.entry.Entry.TheVariants.{Atom, False, Implies, And, Or, Says, IllFormed}
-use Rattle.table.specs.contracts.entry.Entry.{the_type}
 use Rattle.table.specs.Spelled.{among, proposition, spelled}
 use Rattle.table.proofs.Spelled.{length_spelled}
 use Rattle.steps.specs.Figure1.{same}
@@ -54,6 +53,13 @@ module _ (K : ℕ) (made : List Proposition) where
   operands_are s =
       ap₂ (λ (f g : Formula). proving_says same K s (among made f.0) || proving_says same K s (among made g.0))
 
+  -- The operands of an and, and of an or, keep the side.
+  pub keeps_side : (s : Side) {a b : Formula} {e : Entry} → e ≡ And a b ⊎ e ≡ Or a b
+      → proving_says same K s (among made a.0) || proving_says same K s (among made b.0)
+      ≡ proving_says same K s (proposition made e)
+  unfolding proving_says
+  keeps_side s = ⊎_elim (of_kind s) (of_kind s)
+
   -- What L says, on the proving side: it counts itself, where K speaks for L, or one stands in what is said.
   pub in_said : (L a : ℕ) {marks : List Bool} {m n : Bool} → marks ≡ map (proving_says same K proving) made
       → m ≡ same K L → n ≡ get_or marks a false → m || n ≡ same K L || proving_says same K proving (among made a)
@@ -62,26 +68,27 @@ module _ (K : ℕ) (made : List Proposition) where
   -- ---- no operand
 
   -- In an atom, in false and in what is ill-formed no says-formula stands.
-  pub none_inside : (s : Side) (e : Entry) → OneOf (0 ∷ 1 ∷ 6 ∷ []) (tag_of the_type e)
+  pub none_inside : (s : Side) (e : Entry)
+      → ((f g : Formula) → e ≡ Implies f g → ⊥) → ((f g : Formula) → e ≡ And f g → ⊥)
+      → ((f g : Formula) → e ≡ Or f g → ⊥) → ((k : Principal) (f : Formula) → e ≡ Says k f → ⊥)
       → false ≡ proving_says same K s (proposition made e)
   unfolding proving_says
-  none_inside s (Atom a) h = refl
-  none_inside s False h = refl
-  none_inside s (Implies f g) h = absurd (miss (0 ∷ 1 ∷ 6 ∷ []) 2 tt h)
-  none_inside s (And f g) h = absurd (miss (0 ∷ 1 ∷ 6 ∷ []) 3 tt h)
-  none_inside s (Or f g) h = absurd (miss (0 ∷ 1 ∷ 6 ∷ []) 4 tt h)
-  none_inside s (Says k f) h = absurd (miss (0 ∷ 1 ∷ 6 ∷ []) 5 tt h)
-  none_inside s IllFormed h = refl
+  none_inside s (Atom a) i n o h = refl
+  none_inside s False i n o h = refl
+  none_inside s (Implies f g) i n o h = absurd (i f g refl)
+  none_inside s (And f g) i n o h = absurd (n f g refl)
+  none_inside s (Or f g) i n o h = absurd (o f g refl)
+  none_inside s (Says k f) i n o h = absurd (h k f refl)
+  none_inside s IllFormed i n o h = refl
 
   -- ---- whose it is
 
-  -- An entry of another kind than says, whose tag is 5, is nobody's own.
-  pub not_own : (e : Entry) → OneOf (0 ∷ 1 ∷ 2 ∷ 3 ∷ 4 ∷ 6 ∷ []) (tag_of the_type e)
-      → false ≡ is_own K (proposition made e)
+  -- An entry of another kind than says is nobody's own.
+  pub not_own : (e : Entry) → ((k : Principal) (f : Formula) → e ≡ Says k f → ⊥) → false ≡ is_own K (proposition made e)
   not_own (Atom a) h = refl
   not_own False h = refl
   not_own (Implies f g) h = refl
   not_own (And f g) h = refl
   not_own (Or f g) h = refl
-  not_own (Says k f) h = absurd (miss (0 ∷ 1 ∷ 2 ∷ 3 ∷ 4 ∷ 6 ∷ []) 5 tt h)
+  not_own (Says k f) h = absurd (h k f refl)
   not_own IllFormed h = refl

@@ -28,7 +28,7 @@ use Rattle.record_check.specs.Parts.{part_tests, sizes_fit}
 use Rattle.record_check.proofs.Whole.{sizes_fit_lem}
 use Rattle.independence.specs.declared.verdict.IndependenceVerdict.{IndependenceVerdict}
 use Rattle.independence.specs.declared.verdict.IndependenceVerdict.TheVariants.{Independent, NotIndependent, Refused}
-use Rattle.independence.specs.Answer as Any
+use Rattle.independence.specs.Answer as Every
 use Rattle.independence.specs.Answer.{principal_outside, tests}
 use Rattle.independence.specs.Figure1.{independence_answer}
 use Rattle.independence_check.specs.Parts.{arrays_tests, arrays_independent, arrays_verdict, arrays_answer, PartsOfFile}
@@ -86,9 +86,9 @@ module _ (file : List ℕ) where
   -- A refusal by 1 to 3 is the answer.
   pub layout_refused : (K : ℕ) {t : Tested} {number p : ℕ} → t ≡ first_refusal (layout_tests record_layout file)
       → t ≡ Outcome.Refused number p → Refused number p ≡ independence_answer file K
-  unfolding Any.independence_answer
+  unfolding Every.independence_answer
   layout_refused K answered e =
-      ap (λ (t : Tested). unless_refused Refused t (Any.verdict same file K))
+      ap (λ (t : Tested). unless_refused Refused t (Every.verdict same file K))
       (sym (joined_refused (layout_tests record_layout file) (from_4 K) (sym answered ∙ e)))
 
   module _ (s : Sized file) where
@@ -103,8 +103,8 @@ module _ (file : List ℕ) where
     -- and so their answer.
     answers : (K : ℕ) → arrays_answer (heads file) (seconds file) (statements file) (goal file) K
         ≡ independence_answer file K
-    unfolding Any.independence_answer
-    answers K = ap (λ (t : Tested). unless_refused Refused t (Any.verdict same file K)) (tests_from_4 K)
+    unfolding Every.independence_answer
+    answers K = ap (λ (t : Tested). unless_refused Refused t (Every.verdict same file K)) (tests_from_4 K)
 
     -- The same over the parts that the code took.
     pub whole : (K : ℕ) {hs ss ns : List ℕ} {g : ℕ} {v : IndependenceVerdict}

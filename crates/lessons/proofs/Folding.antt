@@ -7,7 +7,7 @@ use mathlib.Core.Logic.{⊎_elim}
 use mathlib.Core.List.Memᴰ
 use mathlib.Core.List.{List, [], ◌∷◌}
 use Rattle.basics.specs.First.{first}
-use Rattle.basics.specs.Membership.{holds}
+use Rattle.basics.specs.Membership.{◌∈◌, holds}
 use Rattle.basics.specs.Rising.{into}
 use Rattle.basics.specs.Refusals.{first_refusal}
 use Rattle.basics.proofs.Membership as In
@@ -59,11 +59,19 @@ own_papers_by_force R reflexive transitive old new force file room release among
     kept_by_force R reflexive transitive old new (papers_of stated) force file room release
     (orders_and_papers stated old among)
 
+pub papers_kept : PapersKept
+papers_kept new stated only K A =
+    let (paper, papers) = papers_are stated (K says A) in (
+      λ m. ⊎_elim (λ i. absurd (only (K says A) i tt)) (λ i. (paper i).0) (Memᴰ.append_cases new m),
+      λ m. ⊆_right new (K says A) (papers (m, tt)),
+    )
+
 -- one order more, of a form that isn't what somebody says
-no_paper : {A : Proposition} {Γ : List Proposition} → ¬ SignedBy Anybody A → OnlyOrders Γ → OnlyOrders (A ∷ Γ)
+no_paper : {A : Proposition} {Γ : List Proposition} → ¬ SignedBy Anybody A
+    → ((B : Proposition) → B ∈ Γ → ¬ SignedBy Anybody B) → (B : Proposition) → B ∈ A ∷ Γ → ¬ SignedBy Anybody B
 no_paper = each_of_more (λ A. ¬ SignedBy Anybody A)
 
-none_at_all : OnlyOrders []
+none_at_all : (B : Proposition) → B ∈ [] → ¬ SignedBy Anybody B
 none_at_all = each_of_none (λ A. ¬ SignedBy Anybody A)
 
 pub only_orders_are : OnlyOrdersAre
@@ -71,13 +79,6 @@ only_orders_are = (
   no_paper (λ s. s) (no_paper (λ s. s) (no_paper (λ s. s) (no_paper (λ s. s) none_at_all))),
   λ only. only (7 says atom 0) In.second tt,
 )
-
-pub papers_kept : PapersKept
-papers_kept new stated only K A =
-    let (paper, papers) = papers_are stated (K says A) in (
-      λ m. ⊎_elim (λ i. absurd (only (K says A) i tt)) (λ i. (paper i).0) (Memᴰ.append_cases new m),
-      λ m. ⊆_right new (K says A) (papers (m, tt)),
-    )
 
 pub nobody_new_signs : (R : Relation) → NobodyNewSigns R
 nobody_new_signs R new only old file room release within K m =

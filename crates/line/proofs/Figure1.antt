@@ -1,22 +1,22 @@
 -- The same at "the same K" (specs/Figure1.antt). Assumes nothing.
 use Rattle.steps.specs.Figure1.{same}
 use Rattle.line.specs.Figure1.{LineOfCall, OneLine, LineOfGrant, WholeLine, WholeExchangeLine, WholeIndependenceLine}
-use Rattle.line.proofs.Printed as Any
+use Rattle.line.proofs.Printed as Every
 
 pub line_of_call : LineOfCall
-line_of_call = Any.line_of_call same
+line_of_call = Every.line_of_call same
 
 pub one_line : OneLine
-one_line = Any.one_line same
+one_line = Every.one_line same
 
 pub line_of_grant : LineOfGrant
-line_of_grant = Any.line_of_grant same
+line_of_grant = Every.line_of_grant same
 
 pub whole_line : WholeLine
-whole_line = Any.whole_line same
+whole_line = Every.whole_line same
 
 pub whole_exchange_line : WholeExchangeLine
-whole_exchange_line = Any.whole_exchange_line same
+whole_exchange_line = Every.whole_exchange_line same
 
 pub whole_independence_line : WholeIndependenceLine
-whole_independence_line = Any.whole_independence_line same
+whole_independence_line = Every.whole_independence_line same

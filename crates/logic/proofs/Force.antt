@@ -15,7 +15,7 @@ use Rattle.logic.proofs.Identity.{identity}
 use Rattle.logic.proofs.Cut.{cut}
 
 -- a list of proofs, a statement each
-module _ {R : Relation} {Δ : List Proposition} where
+module _ {R : Relation} (Δ : List Proposition) where
   pub each_nil : EachHasProof R [] Δ
   each_nil = each_of_none (HasProof R Δ)
 

@@ -10,6 +10,7 @@ pub mod Identity
 pub mod Models
 pub mod Countermodels
 pub mod ThreeWorlds
+pub mod SaysErased
 pub mod SignedAlone
 pub mod Bind
 pub mod Cut

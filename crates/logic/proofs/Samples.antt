@@ -29,8 +29,8 @@ sample_f = signed_give_no_atom _ (none_signed Anybody) 0
 pub sample_k : SampleK
 sample_k =
     (figure1.force_by_statements _ _).1 (
-      each_cons (and_right (init first) (init second)) each_nil,
-      each_cons (and_left first (init first)) (each_cons (and_left first (init second)) each_nil),
+      each_cons _ (and_right (init first) (init second)) (each_nil _),
+      each_cons _ (and_left first (init first)) (each_cons _ (and_left first (init second)) (each_nil _)),
     )
 
 pub first_premise_first : FirstPremiseFirst

@@ -13,12 +13,9 @@ use Rattle.steps.specs.declared.opened.Opened.TheVariants.{Refused, Closed, One,
 use Rattle.steps.specs.PremiseCounts.{premise_counts}
 use Rattle.steps.proofs.Cases.{OfPremises}
 use Rattle.steps.proofs.PremiseCounts.{Counted}
-use types.Run.{OneOf, miss}
-use denote.Enum.Declared.{tag_of}
 use Rattle.premises.specs.declared.premises.Premises.{Premises}
 use Rattle.premises.specs.declared.premises.Premises.TheVariants as Shape
 use Rattle.premises.specs.Premises.{opened, first_of, last_of}
-use Rattle.premises.specs.contracts.premises.Premises.{the_type}
 
 -- not refused
 abbrev pub Taken : Opened → Type 0
@@ -27,19 +24,18 @@ Taken Closed = Unit
 Taken (One a) = Unit
 Taken (Two a b) = Unit
 
--- Every shape but one is taken, as the `_` of a match leaves it.
-pub shape_taken : (x : Premises) (g : Goal) → OneOf (1 ∷ 2 ∷ 3 ∷ 4 ∷ 5 ∷ 6 ∷ 7 ∷ 8 ∷ 9 ∷ []) (tag_of the_type x)
-    → Taken (opened g x)
-shape_taken (Shape.Refused n) g tag = miss (1 ∷ 2 ∷ 3 ∷ 4 ∷ 5 ∷ 6 ∷ 7 ∷ 8 ∷ 9 ∷ []) 0 tt tag
-shape_taken Shape.Closed g tag = tt
-shape_taken (Shape.Truth a) g tag = tt
-shape_taken (Shape.TruthWith b a) g tag = tt
-shape_taken (Shape.With a) g tag = tt
-shape_taken (Shape.WithBoth a b) g tag = tt
-shape_taken (Shape.TruthThenWith a b) g tag = tt
-shape_taken (Shape.BothTruths a b) g tag = tt
-shape_taken (Shape.WithEither a b) g tag = tt
-shape_taken (Shape.Affirmation k a) g tag = tt
+-- Every shape but one is taken.
+pub shape_taken : (x : Premises) (g : Goal) → ((n : ℕ) → ¬ (x ≡ Shape.Refused n)) → Taken (opened g x)
+shape_taken (Shape.Refused n) g other = absurd (other n refl)
+shape_taken Shape.Closed g other = tt
+shape_taken (Shape.Truth a) g other = tt
+shape_taken (Shape.TruthWith b a) g other = tt
+shape_taken (Shape.With a) g other = tt
+shape_taken (Shape.WithBoth a b) g other = tt
+shape_taken (Shape.TruthThenWith a b) g other = tt
+shape_taken (Shape.BothTruths a b) g other = tt
+shape_taken (Shape.WithEither a b) g other = tt
+shape_taken (Shape.Affirmation k a) g other = tt
 
 -- what stands at a place of a list
 stands : {A : Type 0} (l : List A) (i : ℕ) (d a : A) → get_elem? l i ≡ some a → get_or l i d ≡ a

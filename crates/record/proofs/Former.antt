@@ -23,7 +23,7 @@ use Rattle.signers.proofs.Each.{principals_are, signs_spelled, signers_have_pape
 use Rattle.record.specs.declared.verdict.RecordVerdict.{RecordVerdict}
 use Rattle.record.specs.declared.verdict.RecordVerdict.TheVariants.{Granted, Refused}
 use Rattle.record.specs.Layout.{statements, table, says_left_numbers, signers}
-use Rattle.record.specs.Answer as Any
+use Rattle.record.specs.Answer as Every
 use Rattle.record.specs.Answer.{tests_to7}
 use Rattle.record.specs.Figure1.{step_verdict, record_answer}
 use Rattle.record.specs.Former.{former_signers, FormerSignersSpelled, former_answer, FormerEight, ArchiveKept}
@@ -91,7 +91,7 @@ module _ (file : List ℕ) (room : ℕ) where
   former_short = ltb room (length (former_signers file))
 
   answer_is : record_answer file room ≡ answered to_7 (step_verdict file) short (length (signers file))
-  unfolding Any.record_answer
+  unfolding Every.record_answer
   answer_is =
       after_tests (tests_to7 file) (walked (step_verdict file) ∷ test 8 (at0 short) ∷ []) to_7 refl
       (Granted (length (signers file)))

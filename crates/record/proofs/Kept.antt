@@ -14,7 +14,7 @@ use Rattle.table.specs.Tests.{entry_tests}
 use Rattle.table.proofs.Reasons.{entry_reasons, entry_small}
 use Rattle.record.specs.Layout.{record_layout, heads, seconds}
 use Rattle.record.specs.Answer.{goal_outside, statement_outside, tests_to7}
-use Rattle.record.specs.Reasons.{Reason, layout_broken, table_broken, goal_outside, statement_outside}
+use Rattle.record.specs.Reasons.{Reason, layout_broken, table_broken, goal_outside as goal_outside_reason, statement_outside as statement_outside_reason}
 use Rattle.record.specs.Reasons.{list_short, stops}
 use Rattle.record.specs.Promises.{KeepsExactly}
 use Rattle.record.proofs.LayoutIs.{ranges_are}
@@ -35,8 +35,8 @@ module _ (speaks : ℕ → ℕ → Bool) (file : List ℕ) (room number p : ℕ)
   to_test : number ≤ 7 → Reason speaks file room number p → OneApplies (tests_to7 file) number p
   to_test few (layout_broken r) = joined.1 (inl ((layout_reasons record_layout file (ranges_are file) number p).0 r))
   to_test few (table_broken r) = joined.1 (inr (inl ((entry_reasons (heads file) (seconds file) number p).0 r)))
-  to_test few (goal_outside n z l) = joined.1 (inr (inr (inl (sym n, (six speaks file room number p).1 (z, l)))))
-  to_test few (statement_outside n is) =
+  to_test few (goal_outside_reason n z l) = joined.1 (inr (inr (inl (sym n, (six speaks file room number p).1 (z, l)))))
+  to_test few (statement_outside_reason n is) =
       joined.1 (inr (inr (inr (inl (sym n, (seven speaks file room number p).1 is)))))
   to_test few (list_short n z l) = absurd (omega arith)
   to_test few (stops s) = let (least, most, within) = stop_small speaks file number p s in absurd (omega arith)
@@ -57,8 +57,8 @@ module _ (speaks : ℕ → ℕ → Bool) (file : List ℕ) (room number p : ℕ)
 
   from_six_seven : OneApplies six_seven number p → (number ≤ 7) × Reason speaks file room number p
   from_six_seven (inl (n, at)) = let (z, l) =
-      (six speaks file room number p).0 at in (omega arith, goal_outside (sym n) z l)
-  from_six_seven (inr (inl (n, at))) = (omega arith, statement_outside (sym n) ((seven speaks file room number p).0 at))
+      (six speaks file room number p).0 at in (omega arith, goal_outside_reason (sym n) z l)
+  from_six_seven (inr (inl (n, at))) = (omega arith, statement_outside_reason (sym n) ((seven speaks file room number p).0 at))
   from_six_seven (inr (inr none)) = absurd none
 
   from_test : OneApplies (tests_to7 file) number p → (number ≤ 7) × Reason speaks file room number p

@@ -28,7 +28,7 @@ use Rattle.steps.proofs.Stops.{refused_where}
 use Rattle.steps.proofs.Alike.{refused_in_range}
 use Rattle.record.specs.Layout.{record_layout, formulas, goal, heads, seconds, statements, steps, table, signers}
 use Rattle.record.specs.Answer.{goal_outside, statement_outside, list_short, tests, step_verdict}
-use Rattle.record.specs.Reasons.{Reason, layout_broken, table_broken, goal_outside, statement_outside, stops, list_short}
+use Rattle.record.specs.Reasons.{Reason, layout_broken, table_broken, goal_outside as goal_outside_reason, statement_outside as statement_outside_reason, stops, list_short as list_short_reason}
 use Rattle.record.specs.Promises.{RefusedExactly}
 use Rattle.record.proofs.LayoutIs.{ranges_are}
 use Rattle.record.proofs.Answered.{answer_refused}
@@ -87,19 +87,19 @@ module _ (speaks : ℕ → ℕ → Bool) (file : List ℕ) (room number p : ℕ)
   from_reason : Reason speaks file room number p → OneApplies (tests speaks file room) number p
   from_reason (layout_broken r) = joined.1 (inl ((layout_reasons record_layout file (ranges_are file) number p).0 r))
   from_reason (table_broken r) = joined.1 (inr (inl ((entry_reasons (heads file) (seconds file) number p).0 r)))
-  from_reason (goal_outside n z l) = later (inl (sym n, six.1 (z, l)))
-  from_reason (statement_outside n is) = later (inr (inl (sym n, seven.1 is)))
+  from_reason (goal_outside_reason n z l) = later (inl (sym n, six.1 (z, l)))
+  from_reason (statement_outside_reason n is) = later (inr (inl (sym n, seven.1 is)))
   from_reason (stops s) =
       let walk = (walked_applies (step_verdict speaks file) number p).1 ((walk_stops speaks file number p).1 s) in
       later (inr (inr (⊎_elim inl absurd walk)))
-  from_reason (list_short n z l) = later (inr (inr (inr (inl (sym n, eight.1 (z, l))))))
+  from_reason (list_short_reason n z l) = later (inr (inr (inr (inl (sym n, eight.1 (z, l))))))
 
   from_6_reason : OneApplies from_6 number p → Reason speaks file room number p
-  from_6_reason (inl (n, at)) = let (z, l) = six.0 at in goal_outside (sym n) z l
-  from_6_reason (inr (inl (n, at))) = statement_outside (sym n) (seven.0 at)
+  from_6_reason (inl (n, at)) = let (z, l) = six.0 at in goal_outside_reason (sym n) z l
+  from_6_reason (inr (inl (n, at))) = statement_outside_reason (sym n) (seven.0 at)
   from_6_reason (inr (inr (inl walk))) =
       stops ((walk_stops speaks file number p).0 ((walked_applies (step_verdict speaks file) number p).0 (inl walk)))
-  from_6_reason (inr (inr (inr (inl (n, at))))) = let (z, l) = eight.0 at in list_short (sym n) z l
+  from_6_reason (inr (inr (inr (inl (n, at))))) = let (z, l) = eight.0 at in list_short_reason (sym n) z l
   from_6_reason (inr (inr (inr (inr none)))) = absurd none
 
   to_reason : OneApplies (tests speaks file room) number p → Reason speaks file room number p

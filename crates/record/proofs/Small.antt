@@ -9,7 +9,7 @@ use Rattle.basics.specs.Order.{FirstReason, checking_order}
 use Rattle.basics.proofs.Asked.{settled}
 use Rattle.basics.proofs.Order.{lower_before}
 use Rattle.file.specs.Reasons.{size_outside}
-use Rattle.file.proofs.LayoutLaws as Any
+use Rattle.file.proofs.LayoutLaws as Every
 use Rattle.file.proofs.LayoutLaws.{part_most}
 use Rattle.file.proofs.Reasons.{layout_small}
 use Rattle.logic.specs.Principals.{Relation}
@@ -41,7 +41,7 @@ module _ (speaks : ℕ → ℕ → Bool) (file : List ℕ) (room : ℕ) where
   ranges number p r l =
       let (least, most) = reason_range speaks file room number p r.applies in
       let two-before = lower_before number 2 most (omega arith) l (λ e. omega arith) in
-      settled _ (Iff.trans (Any.in_range record_layout file) (ranges_are file)) (λ outside. r.none_before 2 0 two-before (layout_broken (size_outside refl refl outside)))
+      settled _ (Iff.trans (Every.in_range_lem record_layout file) (ranges_are file)) (λ outside. r.none_before 2 0 two-before (layout_broken (size_outside refl refl outside)))
 
   -- and a place that isn't 0 is within one of its parts.
   reason_small : (number p : ℕ) → (2 < number → InRange file) → Reason speaks file room number p

@@ -16,7 +16,7 @@ use Rattle.steps.specs.Figure1.{same}
 use Rattle.record.specs.declared.verdict.RecordVerdict.{RecordVerdict}
 use Rattle.record.specs.declared.verdict.RecordVerdict.TheVariants.{Granted, Refused}
 use Rattle.record.specs.Layout.{record_layout, goal, heads, seconds, statements, steps, signers}
-use Rattle.record.specs.Answer as Any
+use Rattle.record.specs.Answer as Every
 use Rattle.record.specs.Figure1.{tests, record_answer}
 use Rattle.record.specs.ListAfter.{list_after}
 use Rattle.record.specs.Proof.{Sized}
@@ -72,7 +72,7 @@ module _ (file : List ℕ) where
         ∙ rw (length_heads file s) (sym (joined_passed (layout_tests record_layout file) (from_4 room) passed))
 
     answers : (room : ℕ) → arrays_answer (heads file) (seconds file) (statements file) (goal file) (steps file) room ≡ record_answer file room
-    unfolding Any.record_answer
+    unfolding Every.record_answer
     answers room = ap (λ (t : Tested). unless_refused Refused t (Granted (length (signers file)))) (tests_from_4 room)
 
     -- what is in the list at the end

@@ -3,7 +3,7 @@
 use Prim.Native.Nat.{ℕ, ◌<◌, ◌≤◌, min}
 use native.Mathlib.Omega.{arith}
 use mathlib.Core.Bool.{Bool, true, false}
-use mathlib.Core.Path.{◌≡◌, refl, sym}
+use mathlib.Core.Path.{◌≡◌, refl, sym, ◌∙◌}
 use mathlib.Core.List.{List}
 use lib.ListN.{length, get_or, get_or-eq_default}
 use lib.Dec.{ltb}
@@ -67,3 +67,9 @@ module _ (es : List Entry) (slots : List ℕ) (g : Goal) (d w : ℕ) where
   step_is l k m =
       rw (le-leb d most_depth l, k, m, shows_shown slots (lower w))
       (tested_is_applied es (get_or (rules same es) (upper w) unknown) (shown slots) (lower w) g)
+
+  -- So what the rule of the code opens, the step opens.
+  pub step_opens : {code n : ℕ} {r : Opened} → d ≤ most_depth → code ≡ upper w → n ≡ lower w
+      → r ≡ by_slots es slots g code n
+      → r ≡ Figure1.step es w (here slots g d)
+  step_opens l k m e = e ∙ step_is l k m

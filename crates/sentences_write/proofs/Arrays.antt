@@ -47,7 +47,8 @@ module _ (heads seconds statements : List ℕ) (goal : ℕ) (steps : List ℕ) (
   where
     sizes : SizesFit heads seconds statements
     sizes =
-        let (two, _) = (passed_by_all (content_tests heads seconds statements goal steps room)).0 (sym judged ∙ passed) in
+        let (two, _) =
+        (passed_by_all (content_tests heads seconds statements goal steps room)).0 (sym judged ∙ passed) in
         (at0_nowhere _ (not_other _ (sizes_fit_exactly heads seconds statements))).0 two
 
     -- there are no more formulas than 2 allows

@@ -1,17 +1,16 @@
 -- What the functions on rules' names ask for. Assumes nothing.
-use Prim.Native.Nat.{ℕ}
+use Prim.Native.Nat.{ℕ, ◌≤◌}
 use mathlib.Core.Path.{◌≡◌, sym, ap}
 use mathlib.Core.List.{List, []}
 use lib.ListN.{get_or-eq_default}
 use Rattle.text.specs.Ascii.{ascii}
-use Rattle.basics.proofs.Past.{NoneBelow, past}
 use Rattle.sentences.specs.Sentences.{rule_names, rule_name}
 use Rattle.formula_write.proofs.Filled.{Filled, filled_as, filled_none}
 
 -- from 12 on a code has no name
-pub no_name : (code : ℕ) → NoneBelow 12 code → rule_name code ≡ []
+pub no_name : (code : ℕ) → 12 ≤ code → rule_name code ≡ []
 unfolding ascii rule_name
-no_name code none = ap ascii (get_or-eq_default rule_names "" (past 12 code none))
+no_name code past = ap ascii (get_or-eq_default rule_names "" past)
 
 -- The name of a code that is known is written,
 pub filled_name : (old : List ℕ) (p : ℕ) {code k : ℕ} {out : List ℕ} {r : ℕ} → code ≡ k
@@ -19,5 +18,5 @@ pub filled_name : (old : List ℕ) (p : ℕ) {code k : ℕ} {out : List ℕ} {r 
 filled_name old p e f = filled_as old p (ap rule_name (sym e)) f
 
 -- and where there is none, nothing.
-pub filled_nameless : (old : List ℕ) (p code : ℕ) → NoneBelow 12 code → Filled old p (rule_name code) old p
-filled_nameless old p code none = filled_as old p (sym (no_name code none)) (filled_none old p)
+pub filled_nameless : (old : List ℕ) (p code : ℕ) → 12 ≤ code → Filled old p (rule_name code) old p
+filled_nameless old p code past = filled_as old p (sym (no_name code past)) (filled_none old p)

@@ -1,6 +1,6 @@
 -- Over the arrays of a file that 1 to 3 let pass, the call answers `sentences_answer` and leaves `signers_after` and
 -- `text_after`. Assumes nothing.
-use Prim.Native.Nat.{ℕ, ◌*◌, ◌≤◌}
+use Prim.Native.Nat.{ℕ, ◌≤◌}
 use native.Mathlib.Omega.{arith}
 use mathlib.Core.Path.{◌≡◌, refl, sym, ap, ◌∙◌}
 use mathlib.Core.List.{List, ◌++◌}

@@ -52,7 +52,7 @@ module _ (es : List Entry) where
       (joined_from (principals es ns) (entry_at es n) K m)
 
   -- and the principal of each statement is listed.
-  paper_listed : {ns : List ℕ} (K n : ℕ) → n ∈ ns → OfForm (entry_at es n) K → K ∈ principals es ns
+  paper_listed : (K n : ℕ) {ns : List ℕ} → n ∈ ns → OfForm (entry_at es n) K → K ∈ principals es ns
   unfolding principals
   paper_listed K n (Memᴰ.head {x = x} {xs = xs} e) o =
       joins (principals es xs) (subst (λ j. OfForm (entry_at es j) K) e o)

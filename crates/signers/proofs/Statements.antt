@@ -27,7 +27,7 @@ module _ (named : List ℕ) where
       (λ t. later)
       m
 
-  pub used_to : {ns : List ℕ} {n : ℕ} → n ∈ ns → n ∈ named → n ∈ used named ns
+  pub used_to : {n : ℕ} {ns : List ℕ} → n ∈ ns → n ∈ named → n ∈ used named ns
   unfolding used
   used_to {n = n} (Memᴰ.head {x = a} {xs = ns} e) among =
       rw ((holds_member named a).1 (Memᴰ.cast (sym e) among)) (Memᴰ.head e)

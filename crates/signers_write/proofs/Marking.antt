@@ -53,7 +53,8 @@ module _ (flags : List Bool) (ws : List ℕ) (i : ℕ) where
       ∙ ap (λ (l : List ℕ). set_all flags (named_numbers is_says_left l)) (sym (take-suc ws i 0 l))
       ∙ ap before (sym (add-one i))
 
-  pub flags_all : {now : List Bool} → now ≡ before i → length ws ≤ i → now ≡ set_all flags (named_numbers is_says_left ws)
+  pub flags_all : {now : List Bool} → now ≡ before i → length ws ≤ i
+      → now ≡ set_all flags (named_numbers is_says_left ws)
   flags_all h l = h ∙ ap (λ (l : List ℕ). set_all flags (named_numbers is_says_left l)) (take_all i ws l)
 
 -- With no word none is set.

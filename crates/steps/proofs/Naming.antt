@@ -61,7 +61,7 @@ module _ (picks : ℕ → Bool) where
   added_by w n true false m = absurd (Memᴰ.not-nil m)
   added_by w n false c m = absurd (Memᴰ.not-nil m)
 
-  to_named : {ws : List ℕ} (w n : ℕ) → w ∈ ws → picks (upper w) ≡ true → is_naming (upper w) ≡ true → n ≡ lower w
+  to_named : (w : ℕ) {ws : List ℕ} (n : ℕ) → w ∈ ws → picks (upper w) ≡ true → is_naming (upper w) ≡ true → n ≡ lower w
       → n ∈ named_numbers picks ws
   unfolding named_numbers
   to_named w n (Memᴰ.head {x = x} {xs = xs} is) t u e =

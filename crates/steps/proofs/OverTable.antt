@@ -12,7 +12,7 @@ use Rattle.table.proofs.Entries.{length_entries_equal}
 use Rattle.table.proofs.Passed.{passed_is_good}
 use Rattle.steps.specs.OverTable.{RunsAreDerivations, TraceIsDerivations}
 use Rattle.steps.proofs.Has as Table
-use Rattle.steps.proofs.Runs as Any
+use Rattle.steps.proofs.Runs as Every
 use Rattle.steps.proofs.Trace as AnyTrace
 
 -- what the theorems ask of a table
@@ -28,7 +28,7 @@ module _ (speaks : ℕ → ℕ → Bool) (R : Relation) (decides : Decides speak
   pub runs_are_derivations : RunsAreDerivations speaks R
   runs_are_derivations heads seconds passed =
       let t = table_passed heads seconds passed in
-      Any.runs_are_derivations speaks R decides most_depth (entries heads seconds) t.few t.ordered t.distinct
+      Every.runs_are_derivations speaks R decides most_depth (entries heads seconds) t.few t.ordered t.distinct
 
   pub trace_is_derivations : TraceIsDerivations speaks R
   trace_is_derivations heads seconds passed =

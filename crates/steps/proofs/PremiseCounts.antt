@@ -42,21 +42,21 @@ module _ (speaks : ℕ → ℕ → Bool) (es : List Entry) where
   -- in the order of their codes
   each_counts : Each Opens (rules speaks es)
   each_counts =
-      (λ n. truth_cases _ _ _
-      (λ f. atom_cases _ _ (entry_at es f.0) _
+      (λ n. truth_cases (λ h m. Unit) (λ h. Counted 0) _
+      (λ f. atom_cases (λ m. Unit) (Counted 0) (entry_at es f.0) _
       (λ a e. pick_cases (OfPremises (Counted 0)) (eqb n f.0) (λ t. refl) (λ t. tt)) (λ u. tt))
       (λ k f. tt))
-      then affirmation_cases _ _ _ (λ k a. refl) (λ f. tt)
-      then truth_cases _ _ _ (λ f. implies_cases _ _ (entry_at es f.0) _ (λ a b e. refl) (λ u. tt)) (λ k f. tt)
-      then (λ n g. implies_cases _ _ (entry_at es n) _ (λ a b e. refl) (λ u. tt))
-      then (λ n g. false_cases _ _ (entry_at es n) _ (λ e. refl) (λ u. tt))
-      then truth_cases _ _ _ (λ f. and_cases _ _ (entry_at es f.0) _ (λ a b e. refl) (λ u. tt)) (λ k f. tt)
-      then (λ n g. and_cases _ _ (entry_at es n) _ (λ a b e. refl) (λ u. tt))
-      then truth_cases _ _ _ (λ f. or_cases _ _ (entry_at es f.0) _ (λ a b e. refl) (λ u. tt)) (λ k f. tt)
-      then truth_cases _ _ _ (λ f. or_cases _ _ (entry_at es f.0) _ (λ a b e. refl) (λ u. tt)) (λ k f. tt)
-      then (λ n g. or_cases _ _ (entry_at es n) _ (λ a b e. refl) (λ u. tt))
-      then truth_cases _ _ _ (λ f. says_cases _ _ (entry_at es f.0) _ (λ k a e. refl) (λ u. tt)) (λ k f. tt)
-      then (λ n g. says_cases _ _ (entry_at es n) _
+      then affirmation_cases (λ h m. Unit) (λ h. Counted 1) _ (λ k a. refl) (λ f. tt)
+      then truth_cases (λ h m. Unit) (λ h. Counted 2) _ (λ f. implies_cases (λ m. Unit) (Counted 2) (entry_at es f.0) _ (λ a b e. refl) (λ u. tt)) (λ k f. tt)
+      then (λ n g. implies_cases (λ m. Unit) (Counted 3) (entry_at es n) _ (λ a b e. refl) (λ u. tt))
+      then (λ n g. false_cases (λ m. Unit) (Counted 4) (entry_at es n) _ (λ e. refl) (λ u. tt))
+      then truth_cases (λ h m. Unit) (λ h. Counted 5) _ (λ f. and_cases (λ m. Unit) (Counted 5) (entry_at es f.0) _ (λ a b e. refl) (λ u. tt)) (λ k f. tt)
+      then (λ n g. and_cases (λ m. Unit) (Counted 6) (entry_at es n) _ (λ a b e. refl) (λ u. tt))
+      then truth_cases (λ h m. Unit) (λ h. Counted 7) _ (λ f. or_cases (λ m. Unit) (Counted 7) (entry_at es f.0) _ (λ a b e. refl) (λ u. tt)) (λ k f. tt)
+      then truth_cases (λ h m. Unit) (λ h. Counted 8) _ (λ f. or_cases (λ m. Unit) (Counted 8) (entry_at es f.0) _ (λ a b e. refl) (λ u. tt)) (λ k f. tt)
+      then (λ n g. or_cases (λ m. Unit) (Counted 9) (entry_at es n) _ (λ a b e. refl) (λ u. tt))
+      then truth_cases (λ h m. Unit) (λ h. Counted 10) _ (λ f. says_cases (λ m. Unit) (Counted 10) (entry_at es f.0) _ (λ k a e. refl) (λ u. tt)) (λ k f. tt)
+      then (λ n g. says_cases (λ m. Unit) (Counted 11) (entry_at es n) _
       (λ k a e. served_cases (λ h m. Unit) (λ h. Counted 11) speaks k (λ h. One (adding h a)) (λ l f t. refl)
       (λ l f t. tt) (λ f. tt) g) (λ u. tt))
       then tt

@@ -83,33 +83,40 @@ module _ (speaks : ℕ → ℕ → Bool) (es : List Entry) {limit depth : ℕ} (
       (λ l c t. unserved shallow n h (Affirms l c) k a e (λ u. true≢false (sym u ∙ t)))
       (λ f. unserved shallow n h (True f) k a e (λ u. u)) g
 
+  -- of a code and a part: what refuses, and the row that applies
+  abbrev least : ℕ → ℕ → Goal → ℕ → Type 0
+  least c n = Least speaks es limit depth hs c n
+
+  abbrev applies : ℕ → ℕ → Goal → List Premise → Type 0
+  applies c n = Applies speaks es hs c n
+
   -- in the order of their codes
   each : Each Opens (rules speaks es)
   each =
       named 0 _ _ refl _
-      (λ n h. truth_cases _ _ _ (λ f. atom_cases _ _ (entry_at es f.0) _ (same_atom n h f) (named_goal shallow 0 _ _ refl n h (True f)))
+      (λ n h. truth_cases (least 0 n) (applies 0 n) _ (λ f. atom_cases (least 0 n (True f)) (applies 0 n (True f)) (entry_at es f.0) _ (same_atom n h f) (named_goal shallow 0 _ _ refl n h (True f)))
       (λ k f. named_goal shallow 0 _ _ refl n h (Affirms k f) (λ u. u)))
-      then unnamed 1 _ refl _ (affirmation_cases _ _ _ (λ k a. affirm) (λ f. plain_goal shallow 1 _ refl (True f) (λ u. u)))
+      then unnamed 1 _ refl _ (affirmation_cases (least 1 0) (applies 1 0) _ (λ k a. affirm) (λ f. plain_goal shallow 1 _ refl (True f) (λ u. u)))
       then unnamed 2 _ refl _
-      (truth_cases _ _ _ (λ f. implies_cases _ _ (entry_at es f.0) _ (λ a b. implies_right) (plain_goal shallow 2 _ refl (True f)))
+      (truth_cases (least 2 0) (applies 2 0) _ (λ f. implies_cases (least 2 0 (True f)) (applies 2 0 (True f)) (entry_at es f.0) _ (λ a b. implies_right) (plain_goal shallow 2 _ refl (True f)))
       (λ k f. plain_goal shallow 2 _ refl (Affirms k f) (λ u. u)))
-      then named 3 _ _ refl _ (λ n h g. implies_cases _ _ (entry_at es n) _ (λ a b. implies_left h) (named_kind shallow 3 _ _ refl n h g))
-      then named 4 _ _ refl _ (λ n h g. false_cases _ _ (entry_at es n) _ (false_left h) (named_kind shallow 4 _ _ refl n h g))
+      then named 3 _ _ refl _ (λ n h g. implies_cases (least 3 n g) (applies 3 n g) (entry_at es n) _ (λ a b. implies_left h) (named_kind shallow 3 _ _ refl n h g))
+      then named 4 _ _ refl _ (λ n h g. false_cases (least 4 n g) (applies 4 n g) (entry_at es n) _ (false_left h) (named_kind shallow 4 _ _ refl n h g))
       then unnamed 5 _ refl _
-      (truth_cases _ _ _ (λ f. and_cases _ _ (entry_at es f.0) _ (λ a b. and_right) (plain_goal shallow 5 _ refl (True f)))
+      (truth_cases (least 5 0) (applies 5 0) _ (λ f. and_cases (least 5 0 (True f)) (applies 5 0 (True f)) (entry_at es f.0) _ (λ a b. and_right) (plain_goal shallow 5 _ refl (True f)))
       (λ k f. plain_goal shallow 5 _ refl (Affirms k f) (λ u. u)))
-      then named 6 _ _ refl _ (λ n h g. and_cases _ _ (entry_at es n) _ (λ a b. and_left h) (named_kind shallow 6 _ _ refl n h g))
+      then named 6 _ _ refl _ (λ n h g. and_cases (least 6 n g) (applies 6 n g) (entry_at es n) _ (λ a b. and_left h) (named_kind shallow 6 _ _ refl n h g))
       then unnamed 7 _ refl _
-      (truth_cases _ _ _ (λ f. or_cases _ _ (entry_at es f.0) _ (λ a b. or_right_first) (plain_goal shallow 7 _ refl (True f)))
+      (truth_cases (least 7 0) (applies 7 0) _ (λ f. or_cases (least 7 0 (True f)) (applies 7 0 (True f)) (entry_at es f.0) _ (λ a b. or_right_first) (plain_goal shallow 7 _ refl (True f)))
       (λ k f. plain_goal shallow 7 _ refl (Affirms k f) (λ u. u)))
       then unnamed 8 _ refl _
-      (truth_cases _ _ _ (λ f. or_cases _ _ (entry_at es f.0) _ (λ a b. or_right_second) (plain_goal shallow 8 _ refl (True f)))
+      (truth_cases (least 8 0) (applies 8 0) _ (λ f. or_cases (least 8 0 (True f)) (applies 8 0 (True f)) (entry_at es f.0) _ (λ a b. or_right_second) (plain_goal shallow 8 _ refl (True f)))
       (λ k f. plain_goal shallow 8 _ refl (Affirms k f) (λ u. u)))
-      then named 9 _ _ refl _ (λ n h g. or_cases _ _ (entry_at es n) _ (λ a b. or_left h) (named_kind shallow 9 _ _ refl n h g))
+      then named 9 _ _ refl _ (λ n h g. or_cases (least 9 n g) (applies 9 n g) (entry_at es n) _ (λ a b. or_left h) (named_kind shallow 9 _ _ refl n h g))
       then unnamed 10 _ refl _
-      (truth_cases _ _ _ (λ f. says_cases _ _ (entry_at es f.0) _ (λ k a. says_right) (plain_goal shallow 10 _ refl (True f)))
+      (truth_cases (least 10 0) (applies 10 0) _ (λ f. says_cases (least 10 0 (True f)) (applies 10 0 (True f)) (entry_at es f.0) _ (λ k a. says_right) (plain_goal shallow 10 _ refl (True f)))
       (λ k f. plain_goal shallow 10 _ refl (Affirms k f) (λ u. u)))
-      then named 11 _ _ refl _ (λ n h g. says_cases _ _ (entry_at es n) _ (same_principal n h g) (named_kind shallow 11 _ _ refl n h g))
+      then named 11 _ _ refl _ (λ n h g. says_cases (least 11 n g) (applies 11 n g) (entry_at es n) _ (same_principal n h g) (named_kind shallow 11 _ _ refl n h g))
       then tt
 
   -- tests 11 to 14
@@ -141,7 +148,9 @@ module _ (speaks : ℕ → ℕ → Bool) (limit : ℕ) (es : List Entry) where
   step_exact w o =
       pick_cases (OfOpened (LeastAt w o) (Takes speaks es limit w o)) (leb o.depth limit)
       (λ t.
-      of_opened _ _ _ _ (opens speaks es w o) (λ m least. least) (λ ps a. record { fits = leb-true o.depth limit t; applies = a })
+      of_opened (Least speaks es limit o.depth o.hypotheses (upper w) (lower w) o.goal) (LeastAt w o)
+      (Applies speaks es o.hypotheses (upper w) (lower w) o.goal) (Takes speaks es limit w o)
+      (opens speaks es w o) (λ m least. least) (λ ps a. record { fits = leb-true o.depth limit t; applies = a })
       (code_opens speaks es o.hypotheses (leb-true o.depth limit t) (upper w) (lower w) o.goal))
       (λ t. record {
         applies = too_deep refl (leb-false o.depth limit t);
@@ -150,7 +159,8 @@ module _ (speaks : ℕ → ℕ → Bool) (limit : ℕ) (es : List Entry) where
 
   -- the premises of a step that is not refused
   pub step_takes : (w : ℕ) (o : Obligation) → OfPremises (Takes speaks es limit w o) (step speaks es limit w o)
-  step_takes w o = of_opened _ _ _ _ (step speaks es limit w o) (λ m least. tt) (λ ps takes. takes) (step_exact w o)
+  step_takes w o =
+      of_opened (LeastAt w o) (λ n. Unit) (Takes speaks es limit w o) (Takes speaks es limit w o) (step speaks es limit w o) (λ m least. tt) (λ ps takes. takes) (step_exact w o)
 
   -- A word that takes o to premises has no reason against it.
   takes_unrefused : {w : ℕ} {o : Obligation} {ps : List Premise} → Takes speaks es limit w o ps → (m : ℕ) → ¬ ReasonAt speaks limit es w o m

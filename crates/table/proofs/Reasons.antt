@@ -24,7 +24,7 @@ use Rattle.table.specs.Entry.{kinds, entry}
 use Rattle.table.specs.Tests.{entries, entry_at, well_formed_at, same, wrong_entry, repeated_entry, entry_tests}
 use Rattle.table.specs.Reasons.{WrongEntry, no_kind, atom_second, false_first, false_second, WrongExactly}
 use Rattle.table.specs.Reasons.{first_not_lower, second_not_lower, Repeats, RepeatsExactly}
-use Rattle.table.specs.Reasons.{EntryReason, wrong_entry, repeated_entry}
+use Rattle.table.specs.Reasons.{EntryReason, wrong_entry as wrong_entry_reason, repeated_entry as repeated_entry_reason}
 use Rattle.table.proofs.Entries.{length_entries, entry_at_lem}
 
 -- ---- 4, of an entry
@@ -167,12 +167,12 @@ module _ (heads seconds : List ℕ) (number p : ℕ) where
       (λ i l. repeats_exactly heads seconds i) p
 
   from_reason : EntryReason heads seconds number p → OneApplies (entry_tests heads seconds) number p
-  from_reason (wrong_entry n is) = inl (sym n, four.1 is)
-  from_reason (repeated_entry n is) = inr (inl (sym n, five.1 is))
+  from_reason (wrong_entry_reason n is) = inl (sym n, four.1 is)
+  from_reason (repeated_entry_reason n is) = inr (inl (sym n, five.1 is))
 
   to_reason : OneApplies (entry_tests heads seconds) number p → EntryReason heads seconds number p
-  to_reason (inl (n, at)) = wrong_entry (sym n) (four.0 at)
-  to_reason (inr (inl (n, at))) = repeated_entry (sym n) (five.0 at)
+  to_reason (inl (n, at)) = wrong_entry_reason (sym n) (four.0 at)
+  to_reason (inr (inl (n, at))) = repeated_entry_reason (sym n) (five.0 at)
   to_reason (inr (inr none)) = absurd none
 
   pub entry_reasons : EntryReason heads seconds number p ↔ OneApplies (entry_tests heads seconds) number p
@@ -180,5 +180,5 @@ module _ (heads seconds : List ℕ) (number p : ℕ) where
 
   -- The place is an entry's.
   pub entry_small : EntryReason heads seconds number p → (4 ≤ number) × (number ≤ 5) × (p < length heads)
-  entry_small (wrong_entry n is) = let l = is.within in (omega arith, omega arith, omega (arith, length_entries heads seconds))
-  entry_small (repeated_entry n is) = (omega arith, omega arith, is.within)
+  entry_small (wrong_entry_reason n is) = let l = is.within in (omega arith, omega arith, omega (arith, length_entries heads seconds))
+  entry_small (repeated_entry_reason n is) = (omega arith, omega arith, is.within)

@@ -19,7 +19,7 @@ module _ (hs ss : List ℕ) where
   -- if there is one.
   pub record Done (i found : ℕ) : Type 0 where
     pub within : found ≤ length hs
-    pub is_repeated_lem : found < length hs → is_repeated hs ss found ≡ true
+    pub repeated : found < length hs → is_repeated hs ss found ≡ true
     pub none_before : (j k : ℕ) → j < i → k < found → get_or hs k 0 ≡ get_or hs j 0 → is_repeated hs ss k ≡ false
 
   -- At first there is none.
@@ -27,7 +27,7 @@ module _ (hs ss : List ℕ) where
   done_none =
       record {
         within = omega arith;
-        is_repeated_lem = λ l. absurd (omega arith);
+        repeated = λ l. absurd (omega arith);
         none_before = λ j k l. absurd (omega arith);
       }
 
@@ -37,7 +37,7 @@ module _ (hs ss : List ℕ) where
     head_done none =
         record {
           within = d.within;
-          is_repeated_lem = d.is_repeated_lem;
+          repeated = d.repeated;
           none_before = λ j k l before is. one j k l before is (ℕ_discrete j i);
         }
       where
@@ -50,13 +50,13 @@ module _ (hs ss : List ℕ) where
     done_chain r new =
         record {
           within = omega (arith, new.within, d.within);
-          is_repeated_lem = λ l. found_one l (ℕ_discrete r found);
+          repeated = λ l. found_one l (ℕ_discrete r found);
           none_before = λ j k l before is. one j k l before is (ℕ_discrete j i);
         }
       where
         found_one : r < length hs → Dec (r ≡ found) → is_repeated hs ss r ≡ true
-        found_one l (yes e) = rw e (d.is_repeated_lem (omega arith))
-        found_one l (no e) = new.is_repeated_lem (omega (arith, new.within, e))
+        found_one l (yes e) = rw e (d.repeated (omega arith))
+        found_one l (no e) = new.repeated (omega (arith, new.within, e))
 
         one : (j k : ℕ) → j < i + 1 → k < r → get_or hs k 0 ≡ get_or hs j 0 → Dec (j ≡ i) → is_repeated hs ss k ≡ false
         one j k l before is (yes e) = new.none_before k before (is ∙ ap (λ n. get_or hs n 0) e)
@@ -89,7 +89,7 @@ module _ (hs ss : List ℕ) where
       none = (no_place (is_repeated hs ss) found).1 (λ k l. d.none_before k k (omega arith) l refl)
 
       pub done_at : found < length hs → At found ≡ repeated_entry hs ss
-      done_at l = repeated_at hs ss found l none (d.is_repeated_lem l)
+      done_at l = repeated_at hs ss found l none (d.repeated l)
 
       pub done_nowhere : length hs ≤ found → Nowhere ≡ repeated_entry hs ss
       done_nowhere l = repeated_nowhere hs ss found (omega (arith, d.within)) none

@@ -96,7 +96,7 @@ module _ (hs ss : List ℕ) (head : ℕ) where
     pub notes : Notes hs seen
     pub within : found ≤ bound
     pub has_head : found < bound → get_or hs found 0 ≡ head
-    pub is_repeated_lem : found < bound → is_repeated hs ss found ≡ true
+    pub repeated : found < bound → is_repeated hs ss found ≡ true
     pub none_before : (k : ℕ) → k < found → k < j → get_or hs k 0 ≡ head → is_repeated hs ss k ≡ false
     pub its : j < length hs → get_or hs j 0 ≡ head
     pub noted : (k : ℕ) → k < length hs → k < j → get_or hs k 0 ≡ head → Noted seen j k
@@ -108,7 +108,7 @@ module _ (hs ss : List ℕ) (head : ℕ) where
         notes = notes;
         within = omega arith;
         has_head = λ l. absurd (omega arith);
-        is_repeated_lem = λ l. absurd (omega arith);
+        repeated = λ l. absurd (omega arith);
         none_before = λ k l before is. absurd (next.none_between k (omega arith) before (omega arith) is);
         its = next.its;
         noted = λ k l before is. absurd (next.none_between k (omega arith) before l is);
@@ -122,7 +122,7 @@ module _ (hs ss : List ℕ) (head : ℕ) where
           notes = s.notes;
           within = omega (arith, s.within);
           has_head = λ less. s.its inside;
-          is_repeated_lem = λ less. earlier_same hs ss j k before e;
+          repeated = λ less. earlier_same hs ss j k before e;
           none_before = λ i less before is. s.none_before i (omega arith) before is;
           its = s.its;
           noted = s.noted;
@@ -134,7 +134,7 @@ module _ (hs ss : List ℕ) (head : ℕ) where
         record {
           within = s.within;
           has_head = s.has_head;
-          is_repeated_lem = s.is_repeated_lem;
+          repeated = s.repeated;
           none_before = λ k l is. s.none_before k l (omega arith) is;
         }
 
@@ -199,7 +199,7 @@ module _ (hs ss : List ℕ) (head : ℕ) where
                 };
             within = s.within;
             has_head = s.has_head;
-            is_repeated_lem = s.is_repeated_lem;
+            repeated = s.repeated;
             none_before = λ k l before is. none_more k l (up_to k before (omega (arith, s.within)) is) is (ℕ_discrete k j);
             its = next.its;
             noted = λ k l before is. noted_more k l (up_to k before l is) is (ℕ_discrete k j) (ℕ_discrete (get_or ss k 0) (get_or ss j 0));

@@ -35,6 +35,13 @@ pub record Checked (es : List Entry) (statements goals steps : List ℕ) (at i :
   pub in_steps : at ≤ length steps
   pub answered : v ≡ walk es (take (length steps - at) (drop at steps)) 0 (obligation statements (get_or goals i 0) ∷ [])
 
+-- What `check_goal` answers for it is its verdict, in the tail as a slice has it.
+pub checked : {es : List Entry} {statements goals steps : List ℕ} {at i : ℕ} {v : WalkVerdict} → i < length goals
+    → at ≤ length steps
+    → v ≡ walk es (take (length steps - at) (drop at steps)) 0 (obligation statements (get_or goals i 0) ∷ [])
+    → Checked es statements goals steps at i v
+checked inside start answered = record { in_goals = inside; in_steps = start; answered = answered }
+
 module _ {es : List Entry} {statements goals steps : List ℕ} {at i : ℕ} {v : WalkVerdict} (c : Checked es statements goals steps at i v) where
   -- what this goal's proof has to prove
   abbrev this : List Obligation

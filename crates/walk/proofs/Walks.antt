@@ -35,8 +35,9 @@ use Rattle.hypotheses.proofs.Shown.{shows_shown}
 use Rattle.hypotheses.proofs.Trail.{kept_nothing, same_half, live_most, live_kept, live_hold, half_hold, count_hold, undoes_nothing, undoes_kept, undoes_hold, undoes_length}
 use Rattle.hypotheses.proofs.Held.{shown_all}
 use Rattle.premises.specs.declared.premises.Premises.{Premises}
+use Rattle.premises.specs.declared.premises.Premises.TheVariants as Shape
 use Rattle.premises.specs.Premises.{opened, first_of, last_of}
-use Rattle.premises.proofs.Counts.{Taken, none_opened, one_opened, two_opened}
+use Rattle.premises.proofs.Counts.{Taken, shape_taken, none_opened, one_opened, two_opened}
 use Rattle.walk.proofs.Turns.{Turns, turns}
 use Rattle.walk.specs.declared.walk.Walk.{Walk}
 use Rattle.walk.specs.declared.walk.Walked.{Walked}
@@ -84,7 +85,8 @@ pub since_all : {es : List Entry} {from : ℕ} {before slots : List ℕ} {held :
     → Since es from before (held_all slots held ns) (count_all slots held ns)
 unfolding held_all count_all
 since_all [] since = since
-since_all (n ∷ ns) since = since_all ns (since_hold since n)
+since_all {slots = slots} {held = held} (n ∷ ns) since =
+    since_all {slots = held_one slots held n} {held = count_one slots held n} ns (since_hold since n)
 
 -- A premise is proved, and what it added taken back: all is as it was.
 pub held_back : {es : List Entry} {slots more during after : List ℕ} {held count : ℕ} (ns : List ℕ)
@@ -92,8 +94,8 @@ pub held_back : {es : List Entry} {slots more during after : List ℕ} {held cou
     → count ≡ count_all slots held ns → more ≡ held_all slots held ns → Kept count more during
     → after ≡ released during held count
     → Kept held slots after
-held_back ns ready counts holds kept back =
-    rw (back, counts) (since_kept (since_all ns (since_nothing ready)) (rw (counts, holds) at kept)).undoes.leaves
+held_back ns ready counts slots_held kept back =
+    rw (back, counts) (since_kept (since_all ns (since_nothing ready)) (rw (counts, slots_held) at kept)).undoes.leaves
 
 -- ---- what the slots show
 
@@ -128,6 +130,13 @@ pub record Here (es : List Entry) (steps slots : List ℕ) (w : Walk) (x : Premi
   pub inside : w.next < length steps
   pub opens : opened w.goal x ≡ step es (get_or steps w.next 0) (obligation_of w slots)
 
+-- A step that `open_truth` or `open_affirmation` opened there, for the walk's own goal g.
+pub here_opened : {es : List Entry} {steps slots : List ℕ} {w : Walk} {g : Goal} {x : Premises} → w.goal ≡ g
+    → w.next < length steps
+    → opened g x ≡ step es (get_or steps w.next 0) (record { hypotheses = shown slots; goal = g; depth = w.depth })
+    → Here es steps slots w x
+here_opened own inside opens = record { inside = inside; opens = rw own opens }
+
 -- what the machine answers for a premise from word n on
 abbrev pub premise_from : List Entry → List ℕ → List ℕ → Walk → ℕ → Premise → WalkVerdict
 premise_from es steps slots w n p = walk_from same most_depth es steps n (under (obligation_of w slots) p ∷ [])
@@ -139,6 +148,18 @@ pub record Counts (es : List Entry) (steps slots : List ℕ) (w : Walk) (x : Pre
   pub here : Here es steps slots w x
   pub taken : Taken (opened w.goal x)
   pub count : c ≡ get_or premise_counts (upper (get_or steps w.next 0)) 0
+
+-- What `premise_count` answers for the word's code counts so, where the step isn't refused.
+pub counted : {es : List Entry} {steps slots : List ℕ} {w : Walk} {g : Goal} {x : Premises} {code c : ℕ} → w.goal ≡ g
+    → w.next < length steps
+    → opened g x ≡ step es (get_or steps w.next 0) (record { hypotheses = shown slots; goal = g; depth = w.depth })
+    → ((n : ℕ) → ¬ (x ≡ Shape.Refused n)) → code ≡ upper (get_or steps w.next 0) → c ≡ get_or premise_counts code 0
+    → Counts es steps slots w x c
+counted {w = w} {x = x} own inside opens other upper_is count_is = record {
+  here = here_opened own inside opens;
+  taken = shape_taken x w.goal other;
+  count = count_is ∙ ap (λ (n : ℕ). get_or premise_counts n 0) upper_is;
+}
 
 -- So it closes, or opens one premise, or two.
 module _ {es : List Entry} {steps slots : List ℕ} {w : Walk} {x : Premises} {c : ℕ}
@@ -160,11 +181,11 @@ module _ {es : List Entry} {steps slots : List ℕ} {w : Walk} {x : Premises} {c
   opens_one e last =
       one_opened code w.goal opening row_counts counts.taken (sym counts.count ∙ e) ∙ ap Opening.One (sym last)
 
-  pub opens_two : {p q : Premise} → ¬ (c ≡ 0) → ¬ (c ≡ 1) → p ≡ first_of w.goal opening → q ≡ last_of w.goal opening
+  pub opens_two : {p q : Premise} → 2 ≤ c → p ≡ first_of w.goal opening → q ≡ last_of w.goal opening
       → opening ≡ Opening.Two p q
-  opens_two other others first last =
-      two_opened code w.goal opening row_counts counts.taken (λ e. other (counts.count ∙ e))
-      (λ e. others (counts.count ∙ e)) ∙ ap₂ Opening.Two (sym first) (sym last)
+  opens_two many first last =
+      two_opened code w.goal opening row_counts counts.taken (λ e. omega (arith, e, counts.count, many))
+      (λ e. omega (arith, e, counts.count, many)) ∙ ap₂ Opening.Two (sym first) (sym last)
 
 module _ {es : List Entry} {steps before slots : List ℕ} {w₀ w : Walk} (on : On es steps before w₀ slots w) where
   -- The words end.
@@ -226,7 +247,7 @@ module _ {es : List Entry} {steps before slots : List ℕ} {w₀ w : Walk} (on :
         → count ≡ count_all slots w.held (added p.added) → slots' ≡ held_all slots w.held (added p.added)
         → v ≡ onward w p.goal n count
         → Since es w₀.held before slots' v.held
-    since_premise p counts holds is = rw (is, holds, counts) (since_all (added p.added) on.since)
+    since_premise p counts slots_held is = rw (is, slots_held, counts) (since_all (added p.added) on.since)
 
     -- The loop goes on with a premise.
     pub goes_on : (p : Premise) (n : ℕ) {g : Goal} {slots' slots'' : List ℕ} {count : ℕ} {v : Walk}
@@ -234,7 +255,7 @@ module _ {es : List Entry} {steps before slots : List ℕ} {w₀ w : Walk} (on :
         → count ≡ count_all slots' w.held (added p.added) → slots'' ≡ held_all slots' w.held (added p.added)
         → p.goal ≡ g → v ≡ onward w g n count
         → On es steps before w₀ slots'' v
-    goes_on p n run later kept counts holds goal is = rw (is, ← goal, holds, counts) (record {
+    goes_on p n run later kept counts slots_held goal is = rw (is, ← goal, slots_held, counts) (record {
       run_here = run ∙ premise_is p n kept;
       since = since_all (added p.added) (since_kept on.since kept);
       forward = let f = on.forward in omega arith;
@@ -247,7 +268,7 @@ module _ {es : List Entry} {steps before slots : List ℕ} {w₀ w : Walk} (on :
         → count ≡ count_all slots w.held (added p.added) → slots' ≡ held_all slots w.held (added p.added)
         → v ≡ onward w p.goal (w.next + 1) count → verdict ≡ run_from es steps slots' v
         → verdict ≡ premise_from es steps slots w (w.next + 1) p
-    called p counts holds is e = e ∙ rw (is, holds, counts) (sym (premise_is p (w.next + 1) kept_nothing))
+    called p counts slots_held is e = e ∙ rw (is, slots_held) (sym (premise_is p (w.next + 1) kept_nothing))
 
     -- A premise is proved by a word or more.
     pub premise_past : (p : Premise) {r : Walked} {v : Walk}
@@ -299,6 +320,11 @@ module _ {es : List Entry} {steps before slots : List ℕ} {w₀ w : Walk} (on :
     -- Of two premises, which are truths.
     pub turns_here : {p q : Premise} → opened w.goal x ≡ Opening.Two p q → Turns w.goal (p ∷ q ∷ [])
     turns_here e = turns (takes_here e).applies
+
+-- What a call for the walk v comes to, and what it leaves.
+pub record Came (es : List Entry) (steps slots : List ℕ) (v : Walk) (r : Walked) (after : List ℕ) : Type 0 where
+  pub verdict : verdict_of r ≡ run_from es steps slots v
+  pub left : Left v slots r after
 
 -- The goal is proved: what was held since is taken back.
 pub done : (es : List Entry) (steps before : List ℕ) (w₀ : Walk) {slots after : List ℕ} {n held : ℕ} {g : Goal}
