@@ -4,9 +4,9 @@
  * independent, 1 for refused and not independent, and 2 where there is no verdict, because the file cannot be read or
  * what it prints cannot be written. At the top of the repository:
  *
- *     rt staticlib ffi
- *     cc -Iinclude examples/check.c target/staticlib/libffi.a -o target/check
- *     target/check record samples/A.record
+ *     (cd crates/ffi && rt lib)
+ *     cc -Iinclude examples/check.c crates/ffi/out/libffi.a -o crates/ffi/out/check
+ *     crates/ffi/out/check record samples/A.record
  */
 #include <stdio.h>
 #include <stdlib.h>

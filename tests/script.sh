@@ -6,7 +6,7 @@ set -u
 
 top=$(CDPATH='' cd -- "$(dirname -- "$0")/.." && pwd -P) || exit 1
 cd "$top" || exit 1
-programs=$top/target/bin
+programs=$top/crates
 script=$top/wethrynda
 room=$(mktemp -d) || exit 1
 trap 'rm -rf "$room"' EXIT
@@ -111,7 +111,7 @@ done
 # longest. The kind may have a second word, which is the program's argument.
 # shellcheck disable=SC2086 # so the kind and the argument have no quotes
 both() { # KIND PROGRAM FILES RIGHT LINE REFUSED LINE TEXT
-    kind=$1 argument=${1#"${1%% *}"} name=$2 program=$programs/$2 longest=$room/longest-$3
+    kind=$1 argument=${1#"${1%% *}"} name=$2 program=$programs/$2/out/$2 longest=$room/longest-$3
     case $name in
     print_sentences) written=text ;;
     *) written=line ;;
@@ -192,7 +192,7 @@ check 'sample: a text that is too long' 1 'refused 16 place 0' 'more bytes than 
 # Independence: as for a record, with a principal's number before the file. A number that no word holds is 17; what is
 # no number in digits, or is too long for an argument, is no verdict, and then nothing is read.
 both 'independent 8' check_independence record A 'independent' of-8 'not independent' 'may matter'
-independence=$programs/check_independence
+independence=$programs/check_independence/out/check_independence
 outside='refused 17 place 0'
 of() { # PRINCIPAL STATUS LINE TEXT
     check "program: A of $1" 0 "$3" '' "$independence" "$1" <"$room/A"
@@ -260,9 +260,9 @@ for stored in samples/*.independent; do
             "$script" independent "$principal" "${stored%.*}.record" </dev/null
     done <"$stored"
 done
-check 'program: 256 signers' 0 "$all" '' "$programs/check_record" <"$room/signed"
+check 'program: 256 signers' 0 "$all" '' "$programs/check_record/out/check_record" <"$room/signed"
 check 'script: 256 signers' 0 "$all" '' "$script" record "$room/signed"
-check 'program: 256 papers, one of them used' 0 'granted 1 3840' '' "$programs/check_record" <"$room/one-used"
+check 'program: 256 papers, one of them used' 0 'granted 1 3840' '' "$programs/check_record/out/check_record" <"$room/one-used"
 check 'script: no words' 2 '' 'usage:' "$script"
 check 'script: another word' 2 '' 'usage:' "$script" recrd "$room/A"
 check 'script: the name of a program' 2 '' 'usage:' "$script" check_record "$room/A"
@@ -287,12 +287,16 @@ while read -r name line; do
 done <crates/samples/stdout
 
 # The script alone: a repository with a toolchain that counts its calls, and a checker that prints what it is told.
-mkdir -p "$room/a repository/crates/check_record/src" "$room/pretended" "$room/no rt"
-cp "$script" "$room/a repository/wethrynda"
-script="$room/a repository/wethrynda"
-source="$room/a repository/crates/check_record/src/main.rt"
+repository="$room/a repository"
+for name in check_record check_exchange print_sentences check_independence; do
+    mkdir -p "$repository/crates/$name/src"
+done
+mkdir "$room/pretended" "$room/no rt"
+cp "$script" "$repository/wethrynda"
+script=$repository/wethrynda
+source=$repository/crates/check_record/src/main.rt
 : >"$source"
-: >"$room/a repository/crates.txt"
+: >"$repository/crates.txt"
 for tool in cat dirname find mkdir mv readlink rm touch; do ln -s "$(command -v "$tool")" "$room/no rt/$tool"; done
 told=$room/told
 export told
@@ -303,10 +307,11 @@ exit "$(cat "$told.status")"
 END
 cat >"$room/pretended/rt" <<'END'
 #!/bin/sh
-echo "$*" >>"$told.calls"
+name=${PWD##*/}
+echo "$name: $*" >>"$told.calls"
 echo noise
 echo noise >&2
-mkdir -p target/bin && cp "$told.checker" "target/bin/$2"
+mkdir -p out && cp "$told.checker" "out/$name"
 exit "$(cat "$told.build")"
 END
 chmod +x "$told.checker" "$room/pretended/rt"
@@ -338,9 +343,9 @@ built() { # KIND PROGRAM LINE
     sleep 1
     touch "$source"
     pretend "$1" 'a source that is younger' 0 "$2" 'building the checker'
-    rm "$room/a repository/target/bin/$built"
+    rm "$repository/crates/$built/out/$built"
     pretend "$1" 'a program that is missing' 0 "$2" 'building the checker'
-    calls=$(grep -cx "check $built" "$told.calls")
+    calls=$(grep -cx "$built: run" "$told.calls")
     [ "$calls" -eq 5 ] || complain "script alone, $1: calls of rt" 5 "$calls"
     tell 0 3 "$2"
     pretend "$1" 'a checker that fails' 2 '' 'wethrynda:'

@@ -22,9 +22,10 @@ fn main() -> io::Result<()> {
     let top = env::args_os().nth(1).map_or_else(repository, PathBuf::from);
     let (records, exchanges) = (records::sections(), exchanges::sections());
     let program = top.join("crates/samples");
+    let folders = [program.join("data"), top.join("samples")];
     let lines = [
-        write(&program, &records, "README.md", &page::of_records(&records))?,
-        write(&program, &exchanges, "EXCHANGES.md", &page::of_exchanges(&exchanges))?,
+        write(&folders, &records, "README.md", &page::of_records(&records))?,
+        write(&folders, &exchanges, "EXCHANGES.md", &page::of_exchanges(&exchanges))?,
     ]
     .concat();
     let names: String = lines.iter().map(|(name, _)| format!("{name}\n")).collect();
@@ -33,26 +34,28 @@ fn main() -> io::Result<()> {
     fs::write(program.join("stdout"), printed)
 }
 
-/// Writes samples, what stands beside them and their page into a program's folder, and gives the
-/// name and the line of each sample.
-/// The program is run in a copy of its folder data/, which may be no link: so `samples` at the top
-/// is a link to it.
+/// Writes samples, what stands beside them and their page into both folders, and gives the name and
+/// the line of each sample.
+/// The program is run in a copy of its folder data/, and rt takes no link there, nor one to it: so
+/// `samples` at the top has the same files.
 fn write<T: Kind>(
-    program: &Path,
+    folders: &[PathBuf; 2],
     sections: &[Section<T>],
     name: &str,
     page: &str,
 ) -> io::Result<Vec<(String, &'static str)>> {
-    let folder = program.join("data");
-    fs::create_dir_all(&folder)?;
-    fs::write(folder.join(name), page)?;
+    let write = |name: &str, bytes: &[u8]| -> io::Result<()> {
+        folders.iter().try_for_each(|folder| fs::write(folder.join(name), bytes))
+    };
+    folders.iter().try_for_each(fs::create_dir_all)?;
+    write(name, page.as_bytes())?;
     let samples = sections.iter().flat_map(|section| &section.samples);
     samples
         .map(|sample| {
             let name = sample.file_name();
-            fs::write(folder.join(&name), &sample.file)?;
+            write(&name, &sample.file)?;
             for (name, text) in [sample.sentences(), sample.independence()].into_iter().flatten() {
-                fs::write(folder.join(name), text)?;
+                write(&name, text.as_bytes())?;
             }
             Ok((name, sample.line))
         })

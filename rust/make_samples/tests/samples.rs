@@ -14,9 +14,9 @@ fn top() -> PathBuf {
 /// The granted record whose proof is too long to be stored in sentences.
 const TOO_LONG: &str = "doubled-40-times.record";
 
-/// The program over the samples, and the link at the top to its files.
+/// The program over the samples, and the folder at the top with the same files as its own.
 const PROGRAM: &str = "crates/samples";
-const LINK: &str = "samples";
+const SAMPLES: &str = "samples";
 
 /// The files of a folder, by name.
 fn files(folder: &Path) -> BTreeMap<String, Vec<u8>> {
@@ -45,17 +45,17 @@ fn generated_files_are_the_stored_ones() {
     let run = Command::new(env!("CARGO_BIN_EXE_make_samples")).arg(&folder).status();
     assert!(run.expect("make_samples starts").success());
 
-    let data = Path::new(PROGRAM).join("data");
-    let (stored, made) = (files(&top().join(&data)), files(&folder.join(&data)));
-    for name in stored.keys().chain(made.keys()) {
-        assert_same(&data.join(name).display().to_string(), stored.get(name), made.get(name));
+    for of in [Path::new(PROGRAM).join("data"), PathBuf::from(SAMPLES)] {
+        let (stored, made) = (files(&top().join(&of)), files(&folder.join(&of)));
+        for name in stored.keys().chain(made.keys()) {
+            assert_same(&of.join(name).display().to_string(), stored.get(name), made.get(name));
+        }
     }
     for name in ["args", "stdout"] {
         let file = Path::new(PROGRAM).join(name);
         let read = |top: &Path| fs::read(top.join(&file)).ok();
         assert_same(&file.display().to_string(), read(&top()).as_ref(), read(&folder).as_ref());
     }
-    assert_eq!(fs::read_link(top().join(LINK)).ok(), Some(data), "the link {LINK}");
 }
 
 #[test]
@@ -75,7 +75,7 @@ fn every_sample_has_a_line() {
     let sentences: Vec<String> = granted(&lines);
     names.extend(sentences.iter().map(String::as_str).chain(["README.md", "EXCHANGES.md"]));
     names.sort();
-    let files = files(&top().join(LINK)).into_keys();
+    let files = files(&top().join(SAMPLES)).into_keys();
     let others: Vec<String> = files.filter(|name| !name.ends_with(INDEPENDENT)).collect();
     assert_eq!(others, names);
 }
@@ -86,7 +86,7 @@ const INDEPENDENT: &str = ".independent";
 /// Each stands beside a record, and its principals rise.
 #[test]
 fn principals_have_lines() {
-    let files = files(&top().join(LINK));
+    let files = files(&top().join(SAMPLES));
     let mut count = 0;
     for (name, text) in &files {
         let Some(sample) = name.strip_suffix(INDEPENDENT) else { continue };
@@ -108,7 +108,7 @@ fn principals_have_lines() {
 /// statements that are themselves K says something", and "17, after 7" (02); written out by hand.
 #[test]
 fn principals_by_hand() {
-    let read = |name: &str| fs::read_to_string(top().join(LINK).join(name)).expect(name);
+    let read = |name: &str| fs::read_to_string(top().join(SAMPLES).join(name)).expect(name);
     assert_eq!(
         read("A.independent"),
         "7 not independent\n8 independent\n4095 independent\n4096 refused 17 place 0\n\
@@ -130,7 +130,7 @@ fn granted(lines: &[(&str, &str)]) -> Vec<String> {
 /// "Record A gives .. each ended by a line feed" (02); and two records written out by hand.
 #[test]
 fn sentences_by_hand() {
-    let read = |name: &str| fs::read_to_string(top().join(LINK).join(name)).expect(name);
+    let read = |name: &str| fs::read_to_string(top().join(SAMPLES).join(name)).expect(name);
     assert_eq!(
         read("A.sentences"),
         "0 says right for (p7 says a0)\n\

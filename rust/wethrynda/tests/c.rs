@@ -29,7 +29,7 @@ fn compiled(name: &str, source: &str, options: &[&str]) -> PathBuf {
         .arg("-I")
         .arg(top.join("include"))
         .arg(top.join(source))
-        .arg(top.join("target/staticlib/libffi.a"))
+        .arg(top.join("crates/ffi/out/libffi.a"))
         .arg("-o")
         .arg(&program)
         .output()

@@ -147,7 +147,8 @@ fn no_sample_is_left_out() {
     }
 }
 
-/// The page of the samples has a row for each, and no other.
+/// The pages of the samples have a row for each, and no other: its model in words, but for the one
+/// that needs three worlds.
 #[test]
 fn pages_have_the_models() {
     let pages = ["README.md", "EXCHANGES.md"];
@@ -157,11 +158,11 @@ fn pages_have_the_models() {
         let name = text.lines().next().unwrap_or("no name");
         if let Some((_, proof)) = text.split_once("\nno proof  ") {
             let row = proof.lines().map(str::trim).find(|row| row.starts_with("suppose "));
-            told.insert((name.to_string(), row.expect(name).to_string()));
+            told.insert((name.to_string(), row.map(str::to_string)));
         }
     }
-    let rows = rows().into_iter().filter_map(|row| Some((row.name, row.model?.in_words())));
-    assert_eq!(told, rows.collect());
+    let in_words = |row: Row| (row.name, row.model.map(|model| model.in_words()));
+    assert_eq!(told, rows().into_iter().map(in_words).collect());
 }
 
 /// docs/CLASSES.md has the records and their models: the samples, which atoms are true, and who says

@@ -90,7 +90,7 @@ fn each_rule_is_a_case() {
 #[test]
 fn counts_are_those_of_the_definitions() {
     let text = text("crates/steps/specs/PremiseCounts.antt");
-    let list = row(between(&text, "\npremiseCounts = ", "∷ []").split('∷'));
+    let list = row(between(&text, "\npremise_counts = ", "∷ []").split('∷'));
     assert_eq!(list, column(&cases(), 2));
 }
 

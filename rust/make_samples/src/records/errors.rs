@@ -120,7 +120,7 @@ pub fn class_errors() -> Section<Record> {
                 "granted 1 7",
             ),
             sample(
-                "named-hypothesis-used-again",
+                "named-hypothesis-needed-again",
                 "And it is used again: with \"not A\" for \"A implies false\", the goal is not not \
                  (a0 or not a0), and the proof names the hypothesis ((a0 or (a0 implies false)) \
                  implies false) at step 1 and, above that, at step 4.",

@@ -7,7 +7,7 @@ use builder::table::Entry::{And, Atom, False, Implies, Or, Says};
 use builder::table::Table;
 use builder::texts::{doubled, taken_apart};
 
-/// A proof with each of the twelve rules: `everyRule` of `crates/sentences/specs/Samples.antt`,
+/// A proof with each of the twelve rules: `every_rule` of `crates/sentences/specs/Samples.antt`,
 /// whose text is proved there.
 fn every_rule() -> Record {
     let mut table = Table::default();
