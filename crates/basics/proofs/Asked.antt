@@ -7,7 +7,7 @@ use mathlib.Core.Logic.Iff
 use mathlib.Core.Logic.{◌↔◌}
 use lib.Dec.{eqb, ltb, leb}
 use borrow.Author.Tests.{eqb-true, eq-eqb, ltb-true, ltb-false, lt-ltb, le-ltb, leb-true, leb-false, le-leb, lt-leb, not-true, not-false}
-use Rattle.basics.specs.declared.place.Place.TheVariants.{At, Nowhere}
+use Rattle.basics.specs.Place.{At, Nowhere}
 use Rattle.basics.specs.Choice.{both}
 use Rattle.basics.proofs.Choice.{both_true}
 use Rattle.basics.specs.Refusals.{at0}

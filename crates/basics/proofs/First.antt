@@ -6,8 +6,10 @@ use mathlib.Core.Path.{◌≡◌, refl, sym, ap, subst, ◌∙◌}
 use mathlib.Core.Logic.Iff
 use mathlib.Core.Logic.{◌↔◌}
 use borrow.Author.Count.{below_more}
-use Rattle.basics.specs.declared.place.Place.{Place}
-use Rattle.basics.specs.declared.place.Place.TheVariants.{At, Nowhere}
+use Rattle.std.specs.Prelude.{List, length, get_or, nat_lt, cond}
+use Rattle.std.specs.List.{position, position_or_len}
+use Rattle.std.proofs.lemmas.List.Sums.{fails_before_first, passes_at_first}
+use Rattle.basics.specs.Place.{Place, At, Nowhere}
 use Rattle.basics.specs.Choice.{pick}
 use Rattle.basics.specs.First.{or_else, first, found, IsFirst, FirstPlace, NoPlace}
 
@@ -91,3 +93,15 @@ pub first_at : (fault : ℕ → Bool) (n i : ℕ) → first fault i ≡ Nowhere 
 first_at fault n i e f l =
     let none = (no_place fault i).0 e in
     (exactly fault (At i) n).1 record { within = l; is_fault = f; none_before = λ j before. clash fault (none j before) }
+
+-- Over a list it is what the library's `position` finds.
+module _ {X : Type 0} (p : X → Bool) (xs : List X) (d : X) where
+  at_position : (b : Bool) → nat_lt (position_or_len p xs) (length xs) ≡ b
+      → Answers (λ i. p (get_or xs i d)) (cond b (At (position_or_len p xs)) Nowhere) (length xs)
+  at_position true e =
+      let l : position_or_len p xs < length xs = grind (arith, e) in
+      record { within = l; is_fault = passes_at_first p xs d l; none_before = λ j k f. true≢false (sym f ∙ fails_before_first p xs j d k) }
+  at_position false e = λ i l. fails_before_first p xs i d (grind (arith, e, l))
+
+  pub first_in : first (λ i. p (get_or xs i d)) (length xs) ≡ position p xs
+  first_in = (exactly (λ i. p (get_or xs i d)) (position p xs) (length xs)).1 (at_position (nat_lt (position_or_len p xs) (length xs)) refl)

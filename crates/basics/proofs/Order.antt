@@ -10,9 +10,8 @@ use mathlib.Core.List.Memᴰ
 use mathlib.Core.List.{List, [], ◌∷◌, ◌++◌}
 use lib.Dec.{eqb}
 use borrow.Author.Tests.{eqb-true, eq-eqb, ne_eqb, not-true}
-use Rattle.basics.specs.declared.place.Place.{Place}
-use Rattle.basics.specs.declared.place.Place.TheVariants.{At, Nowhere}
-use Rattle.basics.specs.declared.tested.Tested.TheVariants.{Refused}
+use Rattle.basics.specs.Place.{Place, At, Nowhere}
+use Rattle.basics.specs.Tested.{Refused}
 use Rattle.basics.specs.Choice.{pick, both}
 use Rattle.basics.specs.Membership.{◌∈◌, holds}
 use Rattle.basics.specs.Refusals.{Test, first_refusal, FirstThat, NoneApplies}

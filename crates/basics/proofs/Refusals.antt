@@ -5,21 +5,56 @@ use mathlib.Core.Bool.{Bool, true, false}
 use mathlib.Core.Path.{◌≡◌, refl, sym, ap, ◌∙◌}
 use mathlib.Core.Logic.{◌↔◌, ◌⊎◌, inl, inr, ⊎_elim}
 use mathlib.Core.List.{List, [], ◌∷◌, ◌++◌}
-use Rattle.basics.specs.declared.place.Place.{Place}
-use Rattle.basics.specs.declared.place.Place.TheVariants.{At, Nowhere}
-use Rattle.basics.specs.declared.tested.Tested.{Tested}
-use Rattle.basics.specs.declared.tested.Tested.TheVariants.{Passed, Refused}
+use Rattle.std.specs.Prelude.{Result, Ok, Err, IsErrAnd}
+use Rattle.std.proofs.lemmas.Result.{err_from_is_err_and}
+use Rattle.basics.specs.declared.refusal.Refusal.{Refusal}
+use Rattle.basics.specs.Place.{Place, At, Nowhere}
+use Rattle.basics.specs.Tested.{Tested, Passed, Refused}
 use Rattle.basics.specs.Refusals.{refused_at, Test, test, at0, first_refusal, NoneApplies, RefusedByFirst, PassedByAll}
 
--- A refusal is no pass.
+-- ---- a refusal and what else is answered
+
+-- A refusal is no other answer;
+pub not_ok : {A : Type 0} {number p : ℕ} {a : A} → Refused number p ≡ Ok a → ⊥
+not_ok e = let z : ◌≡◌ {A = ℕ} 0 1 = cc in omega arith
+
+-- no pass;
 pub not_passed : {number p : ℕ} → Refused number p ≡ Passed → ⊥
-not_passed e = let z : ◌≡◌ {A = ℕ} 0 1 = cc in omega arith
+not_passed = not_ok
+
+-- its number and its place are its own,
+abbrev number_of : {A : Type 0} → Result A Refusal → ℕ
+number_of (Ok a) = 0
+number_of (Err r) = r.number
+
+abbrev place_of : {A : Type 0} → Result A Refusal → ℕ
+place_of (Ok a) = 0
+place_of (Err r) = r.place
+
+pub same_refusal : {A : Type 0} {n m p q : ℕ} → ◌≡◌ {A = Result A Refusal} (Refused n p) (Refused m q) → (n ≡ m) × (p ≡ q)
+same_refusal e = (ap number_of e, ap place_of e)
+
+pub refusal_same : {A : Type 0} {n m p q : ℕ} → n ≡ m → p ≡ q → ◌≡◌ {A = Result A Refusal} (Refused n p) (Refused m q)
+refusal_same {m = m} {p = p} e f = ap (λ k. Refused k p) e ∙ ap (λ k. Refused m k) f
+
+-- and it is what it is whatever is answered else.
+pub refused_as : {A B : Type 0} (r : Refusal) {n p : ℕ} → ◌≡◌ {A = Result A Refusal} (Err r) (Refused n p) → ◌≡◌ {A = Result B Refusal} (Err r) (Refused n p)
+refused_as r e = refusal_same (same_refusal e).0 (same_refusal e).1
+
+-- What `?` hands on of a refusal is the refusal.
+pub handed_on : {A : Type 0} (answer : Result A Refusal) {r : Refusal} → IsErrAnd answer (λ e. e ≡ r) → answer ≡ Err r
+handed_on answer h = let (e, is, same) = err_from_is_err_and answer h in is ∙ ap (λ e. Err e) same
+
+-- ---- the first that applies
 
 -- One test refuses where it applies, else what follows does.
 one_refuses :
     (n : ℕ) (place : Place) (next : Tested) (number p : ℕ)
     → refused_at n place next ≡ Refused number p ↔ ((n ≡ number) × (place ≡ At p)) ⊎ ((place ≡ Nowhere) × (next ≡ Refused number p))
-one_refuses n (At q) next number p = (λ e. inl (cc, cc), ⊎_elim (λ h. cc) (λ h. cc))
+one_refuses n (At q) next number p = (
+  λ e. let (n_is, p_is) = same_refusal e in inl (n_is, ap At p_is),
+  ⊎_elim (λ h. refusal_same h.0 cc) (λ h. cc),
+)
 one_refuses n Nowhere next number p = (λ e. inr (refl, e), ⊎_elim (λ h. cc) (λ h. h.1))
 
 -- It lets pass where it applies nowhere and what follows lets pass.

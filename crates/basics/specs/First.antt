@@ -1,7 +1,6 @@
 -- The first place of a fault. "Places count from 0." (01) Assumes nothing.
 use Rattle.std.specs.Prelude.{ℕ, zero, suc, ◌<◌, Bool, true, false, ◌≡◌, ◌↔◌}
-use Rattle.basics.specs.declared.place.Place.{Place}
-use Rattle.basics.specs.declared.place.Place.TheVariants.{At, Nowhere}
+use Rattle.basics.specs.Place.{Place, At, Nowhere}
 use Rattle.basics.specs.Choice.{pick}
 
 -- a place that was found stands; else the other counts

@@ -5,7 +5,9 @@ pub mod Choice
 pub mod Membership
 pub mod Once
 pub mod Rising
+pub mod Place
 pub mod First
+pub mod Tested
 pub mod Refusals
 pub mod Order
 pub mod Written

@@ -1,10 +1,9 @@
 -- "Every other file .. is refused by the first reason in the fixed order that applies, with its place" (demand 1): what
 -- "first" means, for any list of tests. Proved in proofs/Refusals.antt. Assumes nothing.
-use Rattle.std.specs.Prelude.{ℕ, Bool, ◌≡◌, ◌↔◌, ◌⊎◌, List, [], ◌∷◌}
-use Rattle.basics.specs.declared.place.Place.{Place}
-use Rattle.basics.specs.declared.place.Place.TheVariants.{At, Nowhere}
-use Rattle.basics.specs.declared.tested.Tested.{Tested}
-use Rattle.basics.specs.declared.tested.Tested.TheVariants.{Passed, Refused}
+use Rattle.std.specs.Prelude.{ℕ, Bool, ◌≡◌, ◌↔◌, ◌⊎◌, List, [], ◌∷◌, Result, Err}
+use Rattle.basics.specs.declared.refusal.Refusal.{Refusal}
+use Rattle.basics.specs.Place.{Place, At, Nowhere}
+use Rattle.basics.specs.Tested.{Tested, Passed, Refused}
 use Rattle.basics.specs.Choice.{pick}
 
 -- A test of 01's list: its number, and the place where it applies, if anywhere.
@@ -29,10 +28,10 @@ unfoldable pub first_refusal : List Test → Tested
 first_refusal [] = Passed
 first_refusal (t ∷ ts) = refused_at t.number t.place (first_refusal ts)
 
--- What a file's tests come to as an answer: a refusal stands, and else the verdict does. `refused` makes the refusal.
-abbrev pub unless_refused : {A : Type 0} → (ℕ → ℕ → A) → Tested → A → A
-unless_refused refused Passed verdict = verdict
-unless_refused refused (Refused number p) verdict = refused number p
+-- What a file's tests come to as an answer: a refusal stands, and else the verdict does.
+abbrev pub unless_refused : {A : Type 0} → Tested → Result A Refusal → Result A Refusal
+unless_refused Passed verdict = verdict
+unless_refused (Err refusal) verdict = Err refusal
 
 -- The first test that applies has this number and this place; those before it apply nowhere.
 abbrev pub FirstThat : List Test → ℕ → ℕ → Type 0

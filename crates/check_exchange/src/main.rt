@@ -1,4 +1,5 @@
 // "one reads an exchange file .. prints one line." (01) All but reading and writing is `exchange_line`'s.
+// (One function for the programs' mains would be public, and have a contract: the system's streams have none.)
 #![tactic(auto)]
 
 use exchange_check::layout::file_buffer;
@@ -7,12 +8,10 @@ use report::{exchange_line, line_buffer};
 
 fn main(rt: HostRuntime) {
     let mut file = file_buffer();
-    let input = read_input(&mut rt.stdin(), &mut file);
-    if !input.ok {
+    let Ok(n) = read_input(&mut rt.stdin(), &mut file) else {
         let _ = eprintln!(rt; "check_exchange: standard input can't be read");
         return;
-    }
-    let n = input.count;
+    };
 
     let mut line = line_buffer();
     let length = exchange_line(&file[..n], &mut line);

@@ -5,9 +5,9 @@ use mathlib.Core.Bool.{Bool}
 use mathlib.Core.Path.{◌≡◌, refl, sym, ◌∙◌}
 use mathlib.Core.Logic.{◌↔◌, ◌⊎◌, inl, inr}
 use mathlib.Core.List.{List}
+use Rattle.std.specs.Prelude.{Err}
 use Rattle.logic.specs.Principals.{Relation, Decides}
-use Rattle.exchange.specs.declared.verdict.ExchangeVerdict.{ExchangeVerdict}
-use Rattle.exchange.specs.declared.verdict.ExchangeVerdict.TheVariants.{Equal, Refused}
+use Rattle.exchange.specs.Verdict.{ExchangeVerdict, Equal, Refused}
 use Rattle.exchange.specs.Answer.{exchange_answer}
 use Rattle.exchange.specs.Proofs.{Keeps, CarriesAll}
 use Rattle.exchange.proofs.Force.{force_by_statements, goal_kept_lem}
@@ -33,8 +33,8 @@ exchange_decided :
     → exchange_answer speaks file ≡ v
     → (Keeps file × CarriesAll R file) ⊎ ((number : ℕ) × (p : ℕ) × FirstOfExchange speaks file number p)
 exchange_decided speaks R decides file Equal e = inl ((equal_exactly speaks R decides file).0 e)
-exchange_decided speaks R decides file (Refused number p) e =
-    inr (number, p, (refused_exactly speaks file number p).0 e)
+exchange_decided speaks R decides file (Err r) e =
+    inr (r.number, r.place, (refused_exactly speaks file r.number r.place).0 e)
 
 pub for_every_relation : ForEveryRelation
 for_every_relation speaks R lawful =

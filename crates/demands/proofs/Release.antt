@@ -9,11 +9,12 @@ use mathlib.Core.Logic.Iff
 use mathlib.Core.Logic.{◌↔◌, ◌⊎◌, inl, inr}
 use mathlib.Core.List.{List}
 use lib.ListN.{length}
+use Rattle.std.specs.Prelude.{Err}
 use Rattle.logic.specs.Principals.{Relation, Decides}
 use Rattle.signers.specs.Each.{Signs, AreSigners}
 use Rattle.signers.proofs.Each.{signers_are, one_list}
-use Rattle.record.specs.declared.verdict.RecordVerdict.{RecordVerdict}
-use Rattle.record.specs.declared.verdict.RecordVerdict.TheVariants.{Granted, Refused}
+use Rattle.basics.proofs.Refusals.{same_refusal}
+use Rattle.record.specs.Verdict.{RecordVerdict, Granted, Refused}
 use Rattle.record.specs.Layout.{table, statements, says_left_numbers, signers}
 use Rattle.record.specs.Answer.{record_answer}
 use Rattle.record.specs.ListAfter.{list_after}
@@ -84,7 +85,7 @@ module _ (speaks : ℕ → ℕ → Bool) (R : Relation) (decides : Decides speak
   decided : (v : RecordVerdict) → record_answer speaks file room ≡ v → Release R file room
       ⊎ ((number : ℕ) × (p : ℕ) × First speaks file room number p)
   decided (Granted count) e = inl (of_grant e)
-  decided (Refused number p) e = inr (number, p, of_refusal e)
+  decided (Err r) e = inr (r.number, r.place, of_refusal e)
 
   pub either : Release R file room ⊎ ((number : ℕ) × (p : ℕ) × First speaks file room number p)
   either = decided (record_answer speaks file room) refl
@@ -99,9 +100,7 @@ module _ (speaks : ℕ → ℕ → Bool) (R : Relation) (decides : Decides speak
   pub one_first : (number p other q : ℕ) → First speaks file room number p → First speaks file room other q
       → (number ≡ other) × (p ≡ q)
   one_first number p other q first second =
-      let e : Refused number p ≡ Refused other q = sym ((refused_exactly speaks file room number p).1 first)
-      ∙ (refused_exactly speaks file room other q).1 second in
-      (cc, cc)
+      same_refusal (sym ((refused_exactly speaks file room number p).1 first) ∙ (refused_exactly speaks file room other q).1 second)
 
 -- ---- calls
 
@@ -130,9 +129,9 @@ module _ (speaks : ℕ → ℕ → Bool) (R : Relation) (decides : Decides speak
       → after ≡ list_after file answer before
       → ¬ Release R file (length before) → RefusedUntouched speaks file answer before after
   refused (Granted count) e l none = absurd (none (of_grant speaks R decides file (length before) (sym e)))
-  refused (Refused number p) e l none = record {
-    number = number;
-    place = p;
+  refused (Err r) e l none = record {
+    number = r.number;
+    place = r.place;
     first = of_refusal speaks R decides file (length before) (sym e);
     refused = refl;
     untouched = l;

@@ -19,7 +19,7 @@ use Rattle.steps.specs.Step.{opens, step}
 use Rattle.steps.specs.Run.{walk, run}
 use Rattle.steps.specs.Naming.{is_naming, named_numbers}
 use Rattle.signers.specs.Signers.{principals, used}
-use Rattle.record.specs.declared.verdict.RecordVerdict.TheVariants.{Granted, Refused}
+use Rattle.record.specs.Verdict.{Granted, Refused}
 use Rattle.record.specs.Layout.{signers}
 use Rattle.record.specs.Answer as Every
 use Rattle.record.specs.Proof.{stated_by}

@@ -11,12 +11,11 @@
 use Rattle.std.specs.Prelude.{ℕ, Bool, ◌≡◌, ◌↔◌, ◌⊎◌, List, length}
 use Rattle.basics.specs.Order.{FirstReason, checking_order}
 use Rattle.logic.specs.Principals.{Relation, Lawful}
-use Rattle.record.specs.declared.verdict.RecordVerdict.{RecordVerdict}
-use Rattle.record.specs.declared.verdict.RecordVerdict.TheVariants.{Granted}
+use Rattle.record.specs.Verdict.{RecordVerdict, Granted}
 use Rattle.record.specs.Answer.{record_answer}
 use Rattle.record.specs.ListAfter.{list_after}
-use Rattle.exchange.specs.declared.verdict.ExchangeVerdict.{ExchangeVerdict}
-use Rattle.exchange.specs.declared.verdict.ExchangeVerdict.TheVariants as Exchange
+use Rattle.exchange.specs.Verdict.{ExchangeVerdict}
+use Rattle.exchange.specs.Verdict as Exchange
 use Rattle.exchange.specs.Answer.{exchange_answer}
 use Rattle.exchange.specs.Force as Force
 use Rattle.exchange.specs.Promises.{EqualOnlyInForce, NeverSixOrEight}

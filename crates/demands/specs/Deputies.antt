@@ -3,7 +3,7 @@
 use Rattle.std.specs.Prelude.{ℕ, ◌≡◌, List, [], ◌∷◌, map}
 use Rattle.file.specs.Words.{file_of}
 use Rattle.deputies.specs.SpeaksFor.{Pair, ◌for◌, SpeaksFor, speaks}
-use Rattle.record.specs.declared.verdict.RecordVerdict.TheVariants.{Granted, Refused}
+use Rattle.record.specs.Verdict.{Granted, Refused}
 use Rattle.record.specs.Answer.{record_answer}
 use Rattle.record.specs.Samples.{over_t}
 use Rattle.demands.specs.Demands.{Demands}

@@ -3,7 +3,7 @@
 use Rattle.std.specs.Prelude.{ℕ, List}
 use Rattle.logic.specs.Figure1.{Same}
 use Rattle.steps.specs.Figure1.{same}
-use Rattle.record.specs.declared.verdict.RecordVerdict.{RecordVerdict}
+use Rattle.record.specs.Verdict.{RecordVerdict}
 use Rattle.demands.specs.Release as Every
 use Rattle.demands.specs.Demands.{Demands}
 

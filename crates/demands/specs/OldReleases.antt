@@ -11,7 +11,7 @@ use Rattle.logic.specs.Force.{HasProof, EqualInForce}
 use Rattle.logic.specs.Signed.{SignedBy, Anybody}
 use Rattle.table.specs.Spelled.{spell_all}
 use Rattle.record.specs.Proof.{stated_by, goal_of}
-use Rattle.exchange.specs.declared.verdict.ExchangeVerdict.TheVariants.{Equal}
+use Rattle.exchange.specs.Verdict.{Equal}
 use Rattle.exchange.specs.Layout.{table, first_list, second_list}
 use Rattle.exchange.specs.Answer.{exchange_answer}
 use Rattle.demands.specs.Release.{Release}

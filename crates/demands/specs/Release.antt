@@ -6,8 +6,7 @@ use Rattle.basics.specs.Membership.{◌∈◌}
 use Rattle.basics.specs.Rising.{Rising}
 use Rattle.basics.specs.Order.{FirstReason, checking_order}
 use Rattle.logic.specs.Principals.{Relation}
-use Rattle.record.specs.declared.verdict.RecordVerdict.{RecordVerdict}
-use Rattle.record.specs.declared.verdict.RecordVerdict.TheVariants.{Granted, Refused}
+use Rattle.record.specs.Verdict.{RecordVerdict, Granted, Refused}
 use Rattle.record.specs.Proof.{Keeps, IsProof}
 use Rattle.record.specs.Carries.{Carries}
 use Rattle.record.specs.Reasons.{Reason}

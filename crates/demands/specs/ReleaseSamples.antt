@@ -1,8 +1,7 @@
 -- What a grant and a refusal say of two of 01's samples. Proved in proofs/ReleaseSamples.antt. Assumes nothing.
 use Rattle.std.specs.Prelude.{ℕ, ◌≡◌, List, [], ◌∷◌, drop}
 use Rattle.file.specs.Words.{file_of}
-use Rattle.record.specs.declared.verdict.RecordVerdict.{RecordVerdict}
-use Rattle.record.specs.declared.verdict.RecordVerdict.TheVariants.{Granted, Refused}
+use Rattle.record.specs.Verdict.{RecordVerdict, Granted, Refused}
 use Rattle.record.specs.Samples.{over_t, bytes_of_a}
 use Rattle.demands.specs.Figure1.{GrantedWithSigners, RefusedUntouched}
 

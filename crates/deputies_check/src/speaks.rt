@@ -8,5 +8,5 @@ use table::entry::Principal;
 pub fn speaks_for(k: Principal, l: Principal) -> bool
     ensures { result ≡ same k.0 l.0 }
 {
-    k.0 == l.0
+    k == l
 }

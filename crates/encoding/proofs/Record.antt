@@ -19,7 +19,7 @@ use Rattle.logic.specs.Depth.{step_depths}
 use Rattle.table.specs.Number.{position, number}
 use Rattle.steps.specs.Words.{words}
 use Rattle.signers.proofs.Each.{signers_are}
-use Rattle.record.specs.declared.verdict.RecordVerdict.TheVariants.{Granted}
+use Rattle.record.specs.Verdict.{Granted}
 use Rattle.record.specs.Layout as File
 use Rattle.record.specs.Layout.{record_layout, signers}
 use Rattle.record.specs.Answer.{record_answer}

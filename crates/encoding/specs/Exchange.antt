@@ -10,7 +10,7 @@ use Rattle.logic.specs.Depth.{step_depths}
 use Rattle.table.specs.Spelled.{spell_all}
 use Rattle.table.specs.Number.{position, number}
 use Rattle.steps.specs.Words.{words}
-use Rattle.exchange.specs.declared.verdict.ExchangeVerdict.TheVariants.{Equal}
+use Rattle.exchange.specs.Verdict.{Equal}
 use Rattle.exchange.specs.Layout.{first_list, second_list, steps, table}
 use Rattle.exchange.specs.Answer.{exchange_answer}
 use Rattle.encoding.specs.Bounds.{FewFormulas, FewStatements, FewSteps, NotDeep}

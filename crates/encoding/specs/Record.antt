@@ -13,7 +13,7 @@ use Rattle.logic.specs.Depth.{step_depths}
 use Rattle.logic.specs.Named.{says_left_names}
 use Rattle.table.specs.Number.{position, number}
 use Rattle.steps.specs.Words.{words}
-use Rattle.record.specs.declared.verdict.RecordVerdict.TheVariants.{Granted}
+use Rattle.record.specs.Verdict.{Granted}
 use Rattle.record.specs.Layout.{steps, table, signers}
 use Rattle.record.specs.Answer.{record_answer}
 use Rattle.record.specs.Proof.{stated_by, goal_of}

@@ -9,7 +9,7 @@ use mathlib.Core.List.Memᴰ
 use mathlib.Core.List.{List, [], ◌∷◌, ◌++◌, append-nil, append_assoc}
 use lib.ListN.{length}
 use Rattle.basics.specs.Membership.{◌∈◌}
-use Rattle.basics.specs.declared.tested.Tested.TheVariants.{Passed}
+use Rattle.basics.specs.Tested.{Passed}
 use Rattle.basics.specs.Limits.{most_depth}
 use Rattle.logic.specs.Principals.{Relation, Decides}
 use Rattle.table.specs.declared.entry.Entry.{Entry}
@@ -18,7 +18,7 @@ use Rattle.table.specs.Tests.{table_tests}
 use Rattle.table.proofs.Answers.{passed}
 use Rattle.table.proofs.Ordered.{no_fault_ordered}
 use Rattle.table.proofs.Unlike.{not_repeated}
-use Rattle.steps.specs.declared.verdict.WalkVerdict.TheVariants.{Closed}
+use Rattle.steps.specs.Verdict.{Closed}
 use Rattle.steps.specs.Obligation.{Obligation, obligation, obligations}
 use Rattle.steps.specs.Words.{words}
 use Rattle.steps.specs.Carried.{Carried, InTable}

@@ -13,7 +13,7 @@ use Rattle.logic.specs.Principals.{Relation, Decides, Lawful}
 use Rattle.logic.specs.Force.{HasProof}
 use Rattle.table.specs.declared.entry.Entry.{Entry}
 use Rattle.table.specs.Spelled.{spell, spell_all}
-use Rattle.steps.specs.declared.verdict.WalkVerdict.TheVariants.{Closed}
+use Rattle.steps.specs.Verdict.{Closed}
 use Rattle.steps.proofs.Closed.{closed_uses_all}
 use Rattle.exchange.specs.Layout.{first_list, second_list, steps, table}
 use Rattle.exchange.specs.Answer.{obligations_of, tests}

@@ -8,7 +8,7 @@ use mathlib.Core.Logic.Iff
 use mathlib.Core.Logic.{◌↔◌, ⊎_elim}
 use mathlib.Core.List.Memᴰ
 use mathlib.Core.List.{List, [], ◌∷◌, ◌++◌}
-use Rattle.basics.specs.declared.place.Place.TheVariants.{Nowhere}
+use Rattle.basics.specs.Place.{Nowhere}
 use Rattle.basics.specs.Membership.{◌∈◌}
 use Rattle.basics.specs.Refusals.{Test, test, NoneApplies}
 use Rattle.basics.proofs.Membership.{⊆_left, ⊆_right}
@@ -18,7 +18,7 @@ use Rattle.file.proofs.Outside.{none_outside}
 use Rattle.table.specs.Tests.{entry_tests}
 use Rattle.table.proofs.Ordered.{no_fault_ordered}
 use Rattle.table.proofs.Unlike.{not_repeated}
-use Rattle.steps.specs.declared.verdict.WalkVerdict.TheVariants.{Closed}
+use Rattle.steps.specs.Verdict.{Closed}
 use Rattle.steps.proofs.Walked.{walked_nowhere}
 use Rattle.exchange.specs.Layout.{exchange_layout, formulas, heads, seconds, first_list, second_list, table}
 use Rattle.exchange.specs.Answer.{statement_outside, step_verdict, tests}

@@ -8,7 +8,7 @@ use lib.ListN.{length, length-append, length-map}
 use Rattle.basics.specs.Limits.{most_depth}
 use Rattle.basics.proofs.Refusals.{passed_by_all}
 use Rattle.table.specs.declared.entry.Entry.{Entry}
-use Rattle.steps.specs.declared.verdict.WalkVerdict.TheVariants.{Closed}
+use Rattle.steps.specs.Verdict.{Closed}
 use Rattle.steps.specs.Obligation.{obligation, obligations}
 use Rattle.steps.specs.Run.{run, walk}
 use Rattle.steps.proofs.Closed.{closed_uses_all, run_closed}

@@ -6,6 +6,7 @@ use mathlib.Core.Path.{◌≡◌, refl}
 use mathlib.Core.Logic.Iff
 use mathlib.Core.List.{List}
 use lib.ListN.{length-append}
+use Rattle.std.specs.Prelude.{Err}
 use Rattle.basics.specs.Order.{FirstReason, checking_order}
 use Rattle.basics.proofs.Asked.{settled}
 use Rattle.basics.proofs.Order.{lower_before}
@@ -14,8 +15,7 @@ use Rattle.file.proofs.LayoutLaws as Every
 use Rattle.file.proofs.LayoutLaws.{part_most}
 use Rattle.file.proofs.Reasons.{layout_small}
 use Rattle.table.proofs.Reasons.{entry_small}
-use Rattle.exchange.specs.declared.verdict.ExchangeVerdict.{ExchangeVerdict}
-use Rattle.exchange.specs.declared.verdict.ExchangeVerdict.TheVariants.{Equal, Refused}
+use Rattle.exchange.specs.Verdict.{ExchangeVerdict, Equal, Refused}
 use Rattle.exchange.specs.Layout.{exchange_layout, heads, seconds, first_list, second_list}
 use Rattle.exchange.specs.Answer.{exchange_answer}
 use Rattle.exchange.specs.Proofs.{InRange}
@@ -54,9 +54,9 @@ module _ (speaks : ℕ → ℕ → Bool) (file : List ℕ) where
 
   small : (v : ExchangeVerdict) → exchange_answer speaks file ≡ v → Small v
   small Equal e = tt
-  small (Refused number p) e =
-      let r = (refused_exactly speaks file number p).0 e in
-      reason_small number p (ranges number p r) r.applies
+  small (Err r') e =
+      let r = (refused_exactly speaks file r'.number r'.place).0 e in
+      reason_small r'.number r'.place (ranges r'.number r'.place r) r.applies
 
 pub answers_small : (speaks : ℕ → ℕ → Bool) → AnswersSmall speaks
 answers_small speaks file = small speaks file (exchange_answer speaks file) refl

@@ -2,17 +2,16 @@
 -- above without 6 and 8" (01), test by test. `speaks` compares principals, for code 11: 01 has "the same K"
 -- (Figure1.antt). Assumes nothing.
 use Rattle.std.specs.Prelude.{ℕ, Bool, List, [], ◌∷◌, ◌++◌}
-use Rattle.basics.specs.declared.place.Place.{Place}
+use Rattle.basics.specs.Place.{Place}
 use Rattle.basics.specs.Limits.{most_depth}
 use Rattle.basics.specs.Refusals.{Test, test, first_refusal, unless_refused}
 use Rattle.file.specs.Layout.{layout_tests}
 use Rattle.file.specs.Outside.{outside}
 use Rattle.table.specs.Tests.{entry_tests}
-use Rattle.steps.specs.declared.verdict.WalkVerdict.{WalkVerdict}
+use Rattle.steps.specs.Verdict.{WalkVerdict}
 use Rattle.steps.specs.Obligation.{Obligation, obligations}
 use Rattle.steps.specs.Run.{run, walked}
-use Rattle.exchange.specs.declared.verdict.ExchangeVerdict.{ExchangeVerdict}
-use Rattle.exchange.specs.declared.verdict.ExchangeVerdict.TheVariants.{Equal, Refused}
+use Rattle.exchange.specs.Verdict.{ExchangeVerdict, Equal, Refused}
 use Rattle.exchange.specs.Layout.{exchange_layout, formulas, heads, seconds, first_list, second_list, steps, table}
 
 -- "7. A statement's number is F or more (place: the first such position)." "Places for 7 run through both lists".
@@ -41,4 +40,4 @@ module _ (speaks : ℕ → ℕ → Bool) where
       ∷ []))
 
   unfoldable pub exchange_answer : List ℕ → ExchangeVerdict
-  exchange_answer file = unless_refused Refused (first_refusal (tests file)) Equal
+  exchange_answer file = unless_refused (first_refusal (tests file)) Equal

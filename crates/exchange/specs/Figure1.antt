@@ -5,9 +5,9 @@ use Rattle.std.specs.Prelude.{ℕ, List}
 use Rattle.basics.specs.Refusals.{Test}
 use Rattle.logic.specs.Figure1.{Same}
 use Rattle.table.specs.declared.entry.Entry.{Entry}
-use Rattle.steps.specs.declared.verdict.WalkVerdict.{WalkVerdict}
+use Rattle.steps.specs.Verdict.{WalkVerdict}
 use Rattle.steps.specs.Figure1.{same}
-use Rattle.exchange.specs.declared.verdict.ExchangeVerdict.{ExchangeVerdict}
+use Rattle.exchange.specs.Verdict.{ExchangeVerdict}
 use Rattle.exchange.specs.Answer as Every
 use Rattle.exchange.specs.Proofs as AnyProofs
 use Rattle.exchange.specs.Reasons as AnyReasons

@@ -2,6 +2,7 @@
 -- a file carries; then what each refusal says, demand 3 over a table, and what is promised, for any test on principals;
 -- the same for Figure 1; and the samples.
 pub mod Layout
+pub mod Verdict
 pub mod Answer
 pub mod Proofs
 pub mod Reasons

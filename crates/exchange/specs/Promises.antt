@@ -1,12 +1,11 @@
 -- What is promised of the answers: demand 3 for exchange files, for every test on principals and, where a proof is
 -- spoken of, the relation that it decides. Each is proved in proofs/ under its name in small letters, and fixed to
 -- Figure 1 in Figure1.antt. Assumes nothing.
-use Rattle.std.specs.Prelude.{ℕ, suc, ◌+◌, ◌≤◌, ◌<◌, Bool, ◌≡◌, ◌↔◌, List, length, take}
+use Rattle.std.specs.Prelude.{ℕ, suc, ◌+◌, ◌≤◌, ◌<◌, Bool, ◌≡◌, ◌↔◌, List, length, take, Err}
 use Rattle.basics.specs.Limits.{most_steps}
 use Rattle.basics.specs.Order.{FirstReason, checking_order}
 use Rattle.logic.specs.Principals.{Relation}
-use Rattle.exchange.specs.declared.verdict.ExchangeVerdict.{ExchangeVerdict}
-use Rattle.exchange.specs.declared.verdict.ExchangeVerdict.TheVariants.{Equal, Refused}
+use Rattle.exchange.specs.Verdict.{ExchangeVerdict, Equal, Refused}
 use Rattle.exchange.specs.Layout.{first_count, second_count, step_count, first_list, second_list, most_bytes, table}
 use Rattle.exchange.specs.Answer.{exchange_answer}
 use Rattle.exchange.specs.Proofs.{Keeps, CarriesAll}
@@ -27,7 +26,7 @@ module _ (speaks : ℕ → ℕ → Bool) (R : Relation) where
 -- How large a refusal can be.
 abbrev pub Small : ExchangeVerdict → Type 0
 Small Equal = Unit
-Small (Refused number p) = (1 ≤ number) × (number ≤ 15) × (p ≤ most_steps)
+Small (Err refusal) = (1 ≤ refusal.number) × (refusal.number ≤ 15) × (refusal.place ≤ most_steps)
 
 module _ (speaks : ℕ → ℕ → Bool) where
   -- Every other file, of any bytes and length, is refused by the first reason in the checking order that applies, with

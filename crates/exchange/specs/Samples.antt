@@ -2,8 +2,7 @@
 -- proofs/Samples.antt, by computation. Assumes nothing.
 use Rattle.std.specs.Prelude.{ℕ, ◌≡◌, List, [], ◌∷◌, ◌++◌, map, length, replicate}
 use Rattle.file.specs.Words.{file_of}
-use Rattle.exchange.specs.declared.verdict.ExchangeVerdict.{ExchangeVerdict}
-use Rattle.exchange.specs.declared.verdict.ExchangeVerdict.TheVariants.{Equal, Refused}
+use Rattle.exchange.specs.Verdict.{ExchangeVerdict, Equal, Refused}
 use Rattle.exchange.specs.Figure1.{exchange_answer}
 
 -- a row: the words of the file, and the answer

@@ -1,5 +1,2 @@
-// The answer for an exchange file: whether it proves that two lists of statements are equal in force. `exchange_check`
-// has the check.
+// The exchange file: definitions and theorems, no code. `exchange_check` has that.
 #![tactic(auto)]
-
-pub mod verdict;

@@ -3,10 +3,8 @@ use Prim.Native.Nat.{ℕ}
 use mathlib.Core.Path.{◌≡◌, sym, ◌∙◌}
 use mathlib.Core.List.{List, [], ◌∷◌}
 use lib.ListN.{length}
-use Rattle.basics.specs.declared.place.Place.{Place}
-use Rattle.basics.specs.declared.place.Place.TheVariants.{At, Nowhere}
-use Rattle.basics.specs.declared.tested.Tested.{Tested}
-use Rattle.basics.specs.declared.tested.Tested.TheVariants.{Passed, Refused}
+use Rattle.basics.specs.Place.{Place, At, Nowhere}
+use Rattle.basics.specs.Tested.{Tested, Passed, Refused}
 use Rattle.basics.specs.Refusals.{Test, test, first_refusal}
 use Rattle.basics.proofs.Refusals.{applies, goes_on, none_left}
 use Rattle.file.specs.Outside.{outside}

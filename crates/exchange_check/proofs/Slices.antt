@@ -16,10 +16,6 @@ use Rattle.exchange.specs.Proofs.{Sized}
 use Rattle.exchange.proofs.LayoutIs.{sized}
 use Rattle.exchange.proofs.Lengths.{sized_table_lem}
 
--- The table has a size that 2 allows.
-pub table_sized : (file : List ℕ) → Sized file → {hs ss : List ℕ} → hs ≡ heads file → ss ≡ seconds file → SizedTable hs ss
-table_sized file s eh es = rw eh (rw es (sized_table_lem file s))
-
 -- By the sizes that the code read: from one place to another, the last of them within the words. The two lists stand
 -- one after the other.
 pub record Slices (file words : List ℕ) (F S1 S2 N : ℕ) : Type 0 where

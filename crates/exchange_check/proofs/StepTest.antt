@@ -7,14 +7,13 @@ use mathlib.Core.Path.{◌≡◌, refl, sym, ap, ◌∙◌}
 use mathlib.Core.List.{List, [], ◌∷◌}
 use lib.ListN.{length, take, drop, length-drop}
 use borrow.Author.Rules.{part_to_end}
-use Rattle.basics.specs.declared.tested.Tested.{Tested}
-use Rattle.basics.specs.declared.tested.Tested.TheVariants.{Passed, Refused}
+use Rattle.basics.specs.Tested.{Tested, Passed, Refused}
 use Rattle.basics.specs.Limits.{most_depth}
 use Rattle.basics.specs.Refusals.{first_refusal}
 use Rattle.table.specs.declared.entry.Entry.{Entry}
 use Rattle.table.specs.Tests.{entries}
-use Rattle.steps.specs.declared.verdict.WalkVerdict.{WalkVerdict}
-use Rattle.steps.specs.declared.verdict.WalkVerdict.TheVariants as Walk
+use Rattle.steps.specs.Verdict.{WalkVerdict}
+use Rattle.steps.specs.Verdict as Walk
 use Rattle.steps.specs.Obligation.{obligations}
 use Rattle.steps.specs.Run.{run, all_used, walked}
 use Rattle.steps.specs.Figure1.{same, walk, proofs_answer}

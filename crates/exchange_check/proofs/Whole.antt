@@ -1,22 +1,21 @@
 -- The parts of the check are `exchange_answer`. Assumes nothing.
-use Prim.Native.Nat.{ℕ}
+use Prim.Native.Nat.{ℕ, ◌≤◌}
 use mathlib.Core.Path.{◌≡◌, sym, ap, ◌∙◌}
 use mathlib.Core.List.{List, [], ◌∷◌, ◌++◌}
-use lib.ListN.{drop}
-use Rattle.basics.specs.declared.tested.Tested.{Tested}
-use Rattle.basics.specs.declared.tested.Tested.TheVariants as Outcome
+use lib.ListN.{length, drop}
+use Rattle.basics.specs.Tested.{Tested}
+use Rattle.basics.specs.Tested as Outcome
 use Rattle.basics.specs.Refusals.{Test, first_refusal, unless_refused}
 use Rattle.basics.proofs.Refusals.{joined_refused, joined_passed}
 use Rattle.file.specs.Layout.{layout_tests}
-use Rattle.file.proofs.LayoutLaws.{passed_to_three}
+use Rattle.file.proofs.LayoutLaws.{passed_to_three, sized_most}
 use Rattle.steps.specs.Figure1.{same}
-use Rattle.exchange.specs.declared.verdict.ExchangeVerdict.{ExchangeVerdict}
-use Rattle.exchange.specs.declared.verdict.ExchangeVerdict.TheVariants.{Equal, Refused}
-use Rattle.exchange.specs.Layout.{exchange_layout, heads, seconds, first_list, second_list, steps}
+use Rattle.exchange.specs.Verdict.{ExchangeVerdict, Equal, Refused}
+use Rattle.exchange.specs.Layout.{exchange_layout, most_bytes, heads, seconds, first_list, second_list, steps}
 use Rattle.exchange.specs.Answer as Every
 use Rattle.exchange.specs.Figure1.{tests, exchange_answer}
 use Rattle.exchange.specs.Proofs.{Sized}
-use Rattle.exchange.proofs.LayoutIs.{sized}
+use Rattle.exchange.proofs.LayoutIs.{sized, bounded}
 use Rattle.exchange.proofs.Lengths.{length_heads}
 use Rattle.exchange.proofs.Answered.{answer_refused}
 use Rattle.exchange_check.specs.Parts.{array_tests, step_test, arrays_answer}
@@ -38,6 +37,10 @@ module _ (file : List ℕ) where
   pub layout_passed : {t : Tested} → t ≡ first_refusal (layout_tests exchange_layout file) → t ≡ Outcome.Passed → Sized file
   layout_passed answered e = (sized file).0 ((passed_to_three exchange_layout file).0 (sym answered ∙ e))
 
+  -- and is no longer than the longest.
+  pub within_most : Sized file → length file ≤ most_bytes
+  within_most s = sized_most exchange_layout bounded file ((sized file).1 s)
+
   -- ---- 4 to 15
 
   module _ (s : Sized file) where
@@ -55,7 +58,7 @@ module _ (file : List ℕ) where
         arrays_answer (heads file) (seconds file) (first_list file ++ second_list file) (first_list file) (second_list file) (steps file)
         ≡ exchange_answer file
     unfolding Every.exchange_answer
-    answers = ap (λ (t : Tested). unless_refused Refused t Equal) tests_from_4
+    answers = ap (λ (t : Tested). unless_refused t Equal) tests_from_4
 
     -- so what the code answers over the parts that it took
     pub whole :

@@ -7,8 +7,7 @@ use Rattle.table.specs.Tests.{entries, entry_tests}
 use Rattle.steps.specs.Obligation.{obligations}
 use Rattle.steps.specs.Run.{walked}
 use Rattle.steps.specs.Figure1.{run}
-use Rattle.exchange.specs.declared.verdict.ExchangeVerdict.{ExchangeVerdict}
-use Rattle.exchange.specs.declared.verdict.ExchangeVerdict.TheVariants.{Equal, Refused}
+use Rattle.exchange.specs.Verdict.{ExchangeVerdict, Equal, Refused}
 
 -- 4, 5 and 7, for a table of F entries and both lists, one after the other
 abbrev pub array_tests : List ℕ → List ℕ → List ℕ → List Test
@@ -21,4 +20,4 @@ step_test heads seconds first second steps = walked (run (entries heads seconds)
 -- 4 to 15, over arrays of a size that 2 allows
 abbrev pub arrays_answer : List ℕ → List ℕ → List ℕ → List ℕ → List ℕ → List ℕ → ExchangeVerdict
 arrays_answer heads seconds lists first second steps =
-    unless_refused Refused (first_refusal (array_tests heads seconds lists ++ (step_test heads seconds first second steps ∷ []))) Equal
+    unless_refused (first_refusal (array_tests heads seconds lists ++ (step_test heads seconds first second steps ∷ []))) Equal

@@ -5,7 +5,7 @@ ghost use Rattle.file.specs.Layout.{layout_tests};
 ghost use Rattle.exchange.specs.Layout.{exchange_layout, most_bytes};
 
 use basics::limits::{MOST_FORMULAS, MOST_STATEMENTS, MOST_STEPS};
-use basics::tested::Tested;
+use basics::refusal::Refusal;
 use file::numbers::fits_and;
 use file::words::word_at;
 
@@ -21,8 +21,9 @@ pub fn file_buffer() -> [u8; MOST_BYTES + 1]
     [0; MOST_BYTES + 1]
 }
 
-// 1 to 3. "Sizes F, S1, S2, N; here N may be 0 to 16,384 and each list 0 to 256."
-pub(crate) fn check_layout(file: &[u8]) -> Tested
+// 1 to 3. "Sizes F, S1, S2, N; here N may be 0 to 16,384 and each list 0 to 256." (Not a loop over a layout as data, as
+// the definitions have it: decision 68.)
+pub(crate) fn check_layout(file: &[u8]) -> Result<(), Refusal>
     ensures { result ≡ first_refusal (layout_tests exchange_layout file.now) }
 {
     let formulas = word_at(file, 0) as usize;

@@ -1,22 +1,21 @@
 -- The answer whether a principal can matter as one number, for callers in C and Rust: 0 for independent, 1 for not
 -- independent, a refusal as `refusal_code` has it. Proved in proofs/IndependenceTells.antt. Assumes nothing.
-use Rattle.std.specs.Prelude.{ℕ, ◌/◌, ◌%◌, ◌≡◌}
-use Rattle.independence.specs.declared.verdict.IndependenceVerdict.{IndependenceVerdict}
-use Rattle.independence.specs.declared.verdict.IndependenceVerdict.TheVariants.{Independent, NotIndependent, Refused}
+use Rattle.std.specs.Prelude.{ℕ, ◌/◌, ◌%◌, ◌≡◌, Err}
+use Rattle.independence.specs.Verdict.{IndependenceVerdict, Independent, NotIndependent, Refused}
 use Rattle.independence.specs.Promises.{Small}
 use Rattle.ffi.specs.RefusalCode.{half, refusal_code, RefusalHalves}
 
 unfoldable pub independence_code : IndependenceVerdict → ℕ
 independence_code Independent = 0
 independence_code NotIndependent = 1
-independence_code (Refused number place) = refusal_code number place
+independence_code (Err refusal) = refusal_code refusal.number refusal.place
 
 -- What the two halves of the number are: 0 and 0 for independent, 0 and 1 for not independent, the number and the place
 -- of a refusal. So the whole number is 0 exactly for independent.
 abbrev pub IndependenceHalves : IndependenceVerdict → ℕ → ℕ → Type 0
 IndependenceHalves Independent high low = (high ≡ 0) × (low ≡ 0)
 IndependenceHalves NotIndependent high low = (high ≡ 0) × (low ≡ 1)
-IndependenceHalves (Refused number place) high low = RefusalHalves number place high low
+IndependenceHalves (Err refusal) high low = RefusalHalves refusal.number refusal.place high low
 
 abbrev pub IndependenceCodeHalves : Type 0
 IndependenceCodeHalves =

@@ -1,32 +1,31 @@
 -- The answer of a call that writes sentences, for callers in C and Rust: as one number the count of signers, or a
 -- refusal as `refusal_code` has it; and the count of bytes in words that are lent for it. Proved in
 -- proofs/SentencesTells.antt. Assumes nothing.
-use Rattle.std.specs.Prelude.{ℕ, ◌≤◌, ◌/◌, ◌%◌, ◌≡◌, List, [], ◌∷◌, set}
+use Rattle.std.specs.Prelude.{ℕ, ◌≤◌, ◌/◌, ◌%◌, ◌≡◌, List, [], ◌∷◌, set, Err, Ok}
 use Rattle.basics.specs.Limits.{most_steps}
-use Rattle.sentences.specs.declared.verdict.SentencesVerdict.{SentencesVerdict}
-use Rattle.sentences.specs.declared.verdict.SentencesVerdict.TheVariants.{Written, Refused}
+use Rattle.sentences.specs.Verdict.{SentencesVerdict, Written, Refused}
 use Rattle.sentences.specs.Promises.{Small}
 use Rattle.ffi.specs.RefusalCode.{half, refusal_code, RefusalHalves}
 
 unfoldable pub sentences_code : SentencesVerdict → ℕ
-sentences_code (Written count bytes) = count
-sentences_code (Refused number place) = refusal_code number place
+sentences_code (Ok counts) = counts.signers
+sentences_code (Err refusal) = refusal_code refusal.number refusal.place
 
 -- What is in the words lent for the count of bytes: it stands in the first, where there is one. "A refusal .. changes
 -- nothing that is lent." (01)
 abbrev pub count_after : SentencesVerdict → List ℕ → List ℕ
-count_after (Written count bytes) before = set before 0 bytes
-count_after (Refused number place) before = before
+count_after (Ok counts) before = set before 0 counts.bytes
+count_after (Err refusal) before = before
 
 -- what `sentences_code` asks of its caller
 abbrev pub PlaceWithin : SentencesVerdict → Type 0
-PlaceWithin (Written count bytes) = Unit
-PlaceWithin (Refused number place) = place ≤ most_steps
+PlaceWithin (Ok counts) = Unit
+PlaceWithin (Err refusal) = refusal.place ≤ most_steps
 
 -- What the two halves of the number are: 0 and the count of signers, the number and the place of a refusal.
 abbrev pub SentencesHalves : SentencesVerdict → ℕ → ℕ → Type 0
-SentencesHalves (Written count bytes) high low = (high ≡ 0) × (low ≡ count)
-SentencesHalves (Refused number place) high low = RefusalHalves number place high low
+SentencesHalves (Ok counts) high low = (high ≡ 0) × (low ≡ counts.signers)
+SentencesHalves (Err refusal) high low = RefusalHalves refusal.number refusal.place high low
 
 abbrev pub SentencesCodeHalves : Type 0
 SentencesCodeHalves =

@@ -20,54 +20,56 @@ ghost use Rattle.ffi.specs.ExchangeCode.{exchange_code};
 ghost use Rattle.ffi.specs.IndependenceCode.{independence_code};
 ghost use Rattle.ffi.specs.SentencesCode.{sentences_code, count_after, PlaceWithin};
 
-use exchange::verdict::ExchangeVerdict;
+use basics::refusal::Refusal;
 use exchange_check::check::check_exchange;
-use independence::verdict::IndependenceVerdict;
 use independence_check::check::independent_of;
-use record::verdict::RecordVerdict;
 use record_check::check::check_record;
-use sentences::verdict::SentencesVerdict;
+use sentences::counts::Counts;
 use sentences_write::write::write_sentences;
 
 // One number for a refusal within its bounds, of whatever call.
-fn refusal_code(number: u8, place: usize) -> u64
-    requires { place ≤ most_steps }
-    ensures { result ≡ refusal_code number place }
+fn refusal_code(refusal: Refusal) -> u64
+    requires { refusal.place ≤ most_steps }
+    ensures { result ≡ refusal_code refusal.number refusal.place }
 {
-    number as u64 * 4294967296 + place as u64
+    refusal.number as u64 * 4294967296 + refusal.place as u64
 }
 
-// One number for an answer within its bounds.
-fn answer_code(verdict: RecordVerdict) -> u64
+// One number for an answer within its bounds. (Four functions for four answers: each has a definition of its own, and
+// what they share is `refusal_code`.)
+#[tactic(auto, unfolding(crate::specs::Code::answer_code))]
+fn answer_code(verdict: Result<usize, Refusal>) -> u64
     requires { Small verdict }
     ensures { result ≡ answer_code verdict }
 {
     match verdict {
-        RecordVerdict::Granted(count) => count as u64,
-        RecordVerdict::Refused { number, place } => refusal_code(number, place),
+        Ok(count) => count as u64,
+        Err(refusal) => refusal_code(refusal),
     }
 }
 
 // The same for an exchange file's.
-fn exchange_code(verdict: ExchangeVerdict) -> u64
+#[tactic(auto, unfolding(crate::specs::ExchangeCode::exchange_code))]
+fn exchange_code(verdict: Result<(), Refusal>) -> u64
     requires { ExchangeSmall verdict }
     ensures { result ≡ exchange_code verdict }
 {
     match verdict {
-        ExchangeVerdict::Equal => 0,
-        ExchangeVerdict::Refused { number, place } => refusal_code(number, place),
+        Ok(()) => 0,
+        Err(refusal) => refusal_code(refusal),
     }
 }
 
 // And for an answer whether a principal can matter.
-fn independence_code(verdict: IndependenceVerdict) -> u64
+#[tactic(auto, unfolding(crate::specs::IndependenceCode::independence_code))]
+fn independence_code(verdict: Result<bool, Refusal>) -> u64
     requires { IndependenceSmall verdict }
     ensures { result ≡ independence_code verdict }
 {
     match verdict {
-        IndependenceVerdict::Independent => 0,
-        IndependenceVerdict::NotIndependent => 1,
-        IndependenceVerdict::Refused { number, place } => refusal_code(number, place),
+        Ok(true) => 0,
+        Ok(false) => 1,
+        Err(refusal) => refusal_code(refusal),
     }
 }
 
@@ -81,17 +83,18 @@ fn put_count(written: &mut [u64], count: usize)
 }
 
 // One number for an answer about sentences within its bounds; the count of bytes goes into the words lent for it.
-fn sentences_code(verdict: SentencesVerdict, written: &mut [u64]) -> u64
+#[tactic(auto, unfolding(crate::specs::SentencesCode::sentences_code))]
+fn sentences_code(verdict: Result<Counts, Refusal>, written: &mut [u64]) -> u64
     requires { PlaceWithin verdict }
     ensures value { result ≡ sentences_code verdict }
     ensures written_after { written.new ≡ count_after verdict written.old }
 {
     match verdict {
-        SentencesVerdict::Written { signers, bytes } => {
+        Ok(Counts { signers, bytes }) => {
             put_count(written, bytes);
             signers as u64
         }
-        SentencesVerdict::Refused { number, place } => refusal_code(number, place),
+        Err(refusal) => refusal_code(refusal),
     }
 }
 

@@ -11,7 +11,7 @@ use mathlib.Core.List.{List, [], ◌∷◌, ◌++◌, map}
 use lib.ListN.{length, get_or, take, drop}
 use lib.Seq.{length-take-le}
 use borrow.Author.Tests.{le-ltb, ne_eqb}
-use Rattle.basics.specs.declared.tested.Tested.TheVariants.{Refused}
+use Rattle.basics.specs.Tested.{Refused}
 use Rattle.basics.specs.Choice.{pick}
 use Rattle.basics.specs.Refusals.{Test, first_refusal, NoneApplies}
 use Rattle.basics.specs.Written.{written}

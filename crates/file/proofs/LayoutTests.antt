@@ -7,7 +7,7 @@ use mathlib.Core.List.{List, [], ◌∷◌}
 use lib.ListN.{length}
 use lib.Dec.{eqb}
 use borrow.Author.Tests.{lt-ltb, le-ltb, eq-eqb, ne_eqb}
-use Rattle.basics.specs.declared.tested.Tested.TheVariants.{Passed, Refused}
+use Rattle.basics.specs.Tested.{Passed, Refused}
 use Rattle.basics.specs.Refusals.{test, at0, first_refusal}
 use Rattle.basics.proofs.Refusals.{applies_at_0, goes_on_at_0, none_left}
 use Rattle.file.specs.Layout.{tests_by}

@@ -6,6 +6,9 @@ use mathlib.Core.Path.{◌≡◌, sym, ap, ◌∙◌}
 use mathlib.Core.List.{List, [], ◌∷◌, ◌++◌}
 use lib.ListN.{length, get_or, take, drop, set, take-append-drop}
 use lib.Seq.{length-take-le, take_all, take-suc}
+use mathlib.Core.Logic.{inl, inr}
+use Rattle.std.specs.Prelude.{min}
+use Rattle.std.proofs.lemmas.Bool.{cases_lt}
 use Rattle.basics.specs.Written.{written}
 use Rattle.basics.proofs.Written.{written_length, written_more, written_full}
 use Rattle.file.specs.Words.{file_words, word_at}
@@ -35,14 +38,13 @@ module _ (file old words : List ℕ) (i : ℕ) (so_far : words ≡ read file old
       rw add-one (take-suc (file_words file) i 0 (omega (arith, half_as_many file))) in
       cc (written_more old new (word_at file i) (omega (arith, read_length)))
 
-  -- All are written where the file has no more,
-  pub read_all : length file / 2 ≤ i → words ≡ written old (file_words file)
-  read_all l = so_far ∙ ap (λ (r : List ℕ). written old r) (take_all i (file_words file) (omega (arith, half_as_many file)))
-
-  -- or there is no more room.
-  pub read_full : i ≤ length file / 2 → length words ≤ i → words ≡ written old (file_words file)
-  read_full l full =
-      let new : List ℕ = take i (file_words file) in
-      so_far
-      ∙ sym (written_full old new (drop i (file_words file)) (omega (arith, read_length, read_count file i l)))
-      ∙ ap (λ (r : List ℕ). written old r) (take-append-drop i (file_words file))
+  -- All are written where the file has no more, or there is no more room.
+  pub read_all : i ≡ min (length words) (length file / 2) → words ≡ written old (file_words file)
+  read_all end = elim (cases_lt i (length file / 2)) [
+    | inr more ↦ so_far ∙ ap (λ (r : List ℕ). written old r) (take_all i (file_words file) (omega (arith, half_as_many file)))
+    | inl less ↦
+        let new : List ℕ = take i (file_words file) in
+        so_far
+        ∙ sym (written_full old new (drop i (file_words file)) (omega (arith, end, less, read_length, read_count file i (omega (arith, end)))))
+        ∙ ap (λ (r : List ℕ). written old r) (take-append-drop i (file_words file))
+  ]

@@ -8,7 +8,7 @@ use mathlib.Core.Logic.{◌↔◌, inl, inr}
 use mathlib.Core.List.{List}
 use lib.ListN.{length}
 use lib.Dec.{eqb, ltb}
-use Rattle.basics.specs.declared.place.Place.TheVariants.{At}
+use Rattle.basics.specs.Place.{At}
 use Rattle.basics.specs.Refusals.{at0}
 use Rattle.basics.proofs.Asked.{less, equal, other, at0_at}
 use Rattle.basics.proofs.Order.{OneApplies}

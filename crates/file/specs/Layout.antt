@@ -4,7 +4,7 @@
 -- proofs/LayoutLaws.antt. Assumes nothing.
 use Rattle.std.specs.Prelude.{ℕ, suc, ◌+◌, ◌*◌, ◌≤◌, ◌<◌, Bool, true, false, not, ◌≡◌, ◌↔◌, List, [], ◌∷◌, ◌++◌, map, length, get_or, take, eqb, ltb, leb}
 use Rattle.basics.specs.Choice.{both}
-use Rattle.basics.specs.declared.tested.Tested.TheVariants.{Passed}
+use Rattle.basics.specs.Tested.{Passed}
 use Rattle.basics.specs.Refusals.{Test, test, at0, first_refusal}
 use Rattle.file.specs.Words.{word_at, part}
 

@@ -1,7 +1,6 @@
 -- Test 7 as all kinds of file share it: numbers of F or more. Proved in proofs/Outside.antt. Assumes nothing.
 use Rattle.std.specs.Prelude.{ℕ, ◌<◌, ◌≤◌, ◌≡◌, ◌↔◌, List, length, get_or, leb}
-use Rattle.basics.specs.declared.place.Place.{Place}
-use Rattle.basics.specs.declared.place.Place.TheVariants.{At, Nowhere}
+use Rattle.basics.specs.Place.{Place, At, Nowhere}
 use Rattle.basics.specs.Membership.{◌∈◌}
 use Rattle.basics.specs.First.{first, IsFirst}
 

@@ -1,8 +1,7 @@
 -- 1 to 3 over a small layout: two fields of 1 to 2 and of any number, then as many words as the first field says. Proved
 -- in proofs/Samples.antt, by computation. Assumes nothing.
 use Rattle.std.specs.Prelude.{ℕ, ◌≡◌, List, [], ◌∷◌, map}
-use Rattle.basics.specs.declared.tested.Tested.{Tested}
-use Rattle.basics.specs.declared.tested.Tested.TheVariants.{Passed, Refused}
+use Rattle.basics.specs.Tested.{Tested, Passed, Refused}
 use Rattle.basics.specs.Refusals.{first_refusal}
 use Rattle.file.specs.Layout.{Layout, range, unranged, layout_tests, part_of}
 

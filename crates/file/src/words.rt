@@ -20,7 +20,7 @@ pub const MANY_WORDS: usize = 2 * MOST_FORMULAS + FEW_WORDS;
 fn word(low: u8, high: u8) -> u16
     ensures { result ≡ low + 256 * high }
 {
-    low as u16 + 256 * (high as u16)
+    u16::from_le_bytes([low, high])
 }
 
 // The word at a position, 0 past the end.
@@ -38,10 +38,7 @@ pub fn word_at(file: &[u8], i: usize) -> u16
 pub fn read_words(file: &[u8], words: &mut [u16])
     ensures { words.new ≡ written words.old (file_words file.now) }
 {
-    let count = file.len() / 2;
-    let mut i = 0;
-    while i < count && i < words.len() {
+    for i in 0..words.len().min(file.len() / 2) {
         words[i] = word(file[2 * i], file[2 * i + 1]);
-        i += 1;
     }
 }

@@ -1,17 +1,18 @@
 -- The promise of specs/Length.antt, and what the functions on lengths ask for. Assumes nothing.
-use Prim.Native.Nat.{ℕ, suc, ◌+◌, ◌≤◌, ◌<◌}
+use Prim.Native.Nat.{ℕ, ◌+◌, ◌≤◌, ◌<◌, min}
 use native.Mathlib.Decide.{dec_lt}
 use native.Mathlib.Omega.{arith}
 use mathlib.Core.Path.{◌≡◌, sym, ap, ◌∙◌}
-use mathlib.Core.Logic.{◌⊎◌, ⊎_elim}
+use mathlib.Core.Logic.{⊎_elim}
 use mathlib.Core.List.{List, ◌++◌, map, map-append}
 use lib.Dec.{ltb}
-use lib.ListN.{length, take, drop, get_or, length-append, length-map, get_or-map, get_or-eq_default}
-use lib.Seq.{split_at, get_or_at, length-take-le, take_all, take_at}
+use lib.ListN.{length, take, drop, get_or, length-append, length-map, get_or-map}
+use lib.Seq.{take_all, take_at}
 use borrow.Author.Tests.{lt-ltb, le-ltb}
 use Rattle.basics.specs.Written.{written}
 use Rattle.basics.proofs.Written.{written_fits, written_full}
 use Rattle.text.specs.Ascii.{ascii}
+use Rattle.text.proofs.Split.{split}
 use Rattle.logic.specs.Proposition.{Proposition, false}
 use Rattle.table.specs.declared.entry.Entry.{Entry}
 use Rattle.table.specs.Spelled.{among, spelled}
@@ -64,20 +65,11 @@ length_brackets left word right k e f g h i = rw (brackets_long left word right)
 
 -- ---- looked up
 
--- The length of a number that has one,
-pub length_made : (ls : List ℕ) (n : ℕ) → n < length ls → (made : List Proposition) → ls ≡ map length_of made
-    → get_or ls n 0 ≡ length_of (among made n)
-length_made ls n l made e =
-    sym (get_or_at (take n ls) (get_or ls n 0) (drop (suc n) ls) (length_of false) n (length-take-le n ls (omega arith)))
-    ∙ ap (λ (r : List ℕ). get_or r n (length_of false)) (sym (split_at ls n 0 l) ∙ e)
-    ∙ get_or-map length_of made n false
-
--- and of one that has none.
-pub length_unmade : (ls : List ℕ) (n : ℕ) → length ls ≤ n → (made : List Proposition) → ls ≡ map length_of made → 5
-    ≡ length_of (among made n)
+-- The length of a number's text; for one that has none it is that of `false`.
+pub length_found : (ls : List ℕ) (n : ℕ) (made : List Proposition) → ls ≡ map length_of made
+    → get_or ls n 5 ≡ length_of (among made n)
 unfolding ascii proposition_text length_of
-length_unmade ls n l made e =
-    sym (ap length_of (get_or-eq_default made false (omega (arith, ap (length {A = ℕ}) e, length-map made length_of))))
+length_found ls n made e = ap (λ (r : List ℕ). get_or r n 5) e ∙ get_or-map length_of made n false
 
 -- ---- the pass over the table
 
@@ -94,8 +86,8 @@ module _ {es : List Entry} {old out : List ℕ} {i : ℕ} (u : Upward length_of 
       ∙ sym (written_fits old (map length_of (spelled (take i es))) (omega (arith, long)))
 
   -- Where the room or the entries end, these are all that there is room for.
-  pub measured_all : (length old ≤ i) ⊎ (length es ≤ i) → out ≡ written old (lengths_of es)
-  measured_all = ⊎_elim full ended
+  pub measured_all : min (length old) (length es) ≤ i → out ≡ written old (lengths_of es)
+  measured_all l = ⊎_elim (λ (m : i < length old). ended (omega arith)) full (split i (length old))
     where
       full : length old ≤ i → out ≡ written old (lengths_of es)
       full l =

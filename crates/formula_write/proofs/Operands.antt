@@ -1,6 +1,7 @@
 -- What the writer of formulas asks for: the text of a number is made of those of its operands. Assumes nothing.
 use Prim.Native.Nat.{ℕ, ◌≤◌, ◌<◌}
 use mathlib.Core.Path.{◌≡◌, refl, sym, ap, ◌∙◌}
+use mathlib.Core.Logic.{◌⊎◌, ⊎_elim}
 use mathlib.Core.List.{List, []}
 use lib.ListN.{take}
 use Rattle.text.specs.Ascii.{ascii}
@@ -26,6 +27,13 @@ pub filled_entry : (old : List ℕ) (p : ℕ) (es : List Entry) (n : ℕ) {e x :
 filled_entry old p es n is kind f =
     filled_as old p
     (ap proposition_text (sym (made_before es n ∙ ap (proposition (spelled (take n es))) (sym is ∙ kind)))) f
+
+-- The text of false is that of an entry that is false or ill-formed.
+pub filled_false : (old : List ℕ) (p : ℕ) (es : List Entry) (n : ℕ) {e : Entry} {out : List ℕ} {r : ℕ}
+    → e ≡ entry_at es n → (e ≡ False) ⊎ (e ≡ IllFormed) → Filled old p (proposition_text false) out r
+    → Filled old p (proposition_text (spell es n)) out r
+filled_false old p es n is kind f =
+    ⊎_elim (λ k. filled_entry old p es n is k f) (λ k. filled_entry old p es n is k f) kind
 
 -- A lower operand has the text of its number,
 pub filled_lower : (old : List ℕ) (p : ℕ) (es : List Entry) (n m : ℕ) {out : List ℕ} {r : ℕ} → m < n

@@ -3,73 +3,58 @@
 // that are lent, so the room is looked at first. Only numbers are kept on the way down: it can be 4,096 deep.
 ghost use Rattle.std.specs.Prelude.{◌≡◌, ◌++◌};
 ghost use Rattle.basics.specs.Written.{written_at};
-ghost use Rattle.text.specs.Ascii.{ascii};
 ghost use Rattle.text.specs.Decimal.{decimal};
 ghost use Rattle.text.specs.Fill.{place_after};
-ghost use Rattle.table.specs.Tests.{entries};
+ghost use Rattle.table.specs.Tests.{entries_of};
 ghost use Rattle.table.specs.Spelled.{spell};
 ghost use Rattle.sentences.specs.Formula.{proposition_text, principal_text};
 ghost use Rattle.formula_write.specs.Operand.{operand_text, left_text, word_text, right_text};
 
-use table::entry::{Atom, Entry, Formula, Principal, entry_at};
+use table::entry::{Entry, Formula, Principal};
+use table::lent::Table;
 use text::decimal::fill_decimal;
 use text::fill::fill;
 
-// "Atom 0 is a0"
-fn fill_atom(a: Atom, text: &mut [u8], at: usize) -> usize
-    ensures text_after { text.new ≡ written_at text.old at (ascii "a" ++ decimal a.0) }
-    ensures value { result ≡ place_after text.old at (ascii "a" ++ decimal a.0) }
+// "Atom 0 is a0, principal 7 is p7"
+fn fill_numbered(letter: &[u8], number: u16, text: &mut [u8], at: usize) -> usize
+    ensures text_after { text.new ≡ written_at text.old at (letter.now ++ decimal number) }
+    ensures value { result ≡ place_after text.old at (letter.now ++ decimal number) }
 {
-    let end = fill(text, at, b"a");
-    fill_decimal(text, end, a.0 as usize)
+    let end = fill(text, at, letter);
+    fill_decimal(text, end, number as usize)
 }
 
-// "principal 7 is p7"
+// The name of a principal.
 pub fn fill_principal(k: Principal, text: &mut [u8], at: usize) -> usize
     ensures text_after { text.new ≡ written_at text.old at (principal_text k.0) }
     ensures value { result ≡ place_after text.old at (principal_text k.0) }
 {
-    let end = fill(text, at, b"p");
-    fill_decimal(text, end, k.0 as usize)
+    fill_numbered(b"p", k.0, text, at)
 }
 
 // An operand of entry n. One that isn't lower is spelled as false.
 #[cycle(formula)]
-fn fill_operand(
-    heads: &[u16],
-    seconds: &[u16],
-    n: u16,
-    f: Formula,
-    text: &mut [u8],
-    at: usize,
-) -> usize
-    ensures text_after { text.new ≡ written_at text.old at (operand_text (entries heads.now seconds.now) n f.0) }
-    ensures value { result ≡ place_after text.old at (operand_text (entries heads.now seconds.now) n f.0) }
+fn fill_operand(table: &Table, n: u16, f: Formula, text: &mut [u8], at: usize) -> usize
+    ensures text_after { text.new ≡ written_at text.old at (operand_text (entries_of table.now) n f.0) }
+    ensures value { result ≡ place_after text.old at (operand_text (entries_of table.now) n f.0) }
 {
     let number = f.0;
     if number < n {
-        return fill_formula(heads, seconds, number, text, at);
+        return fill_formula(table, number, text, at);
     }
     fill(text, at, b"false")
 }
 
 // What stands before the word of a compound entry n: its first operand, or the principal.
 #[cycle(formula)]
-fn fill_left(
-    heads: &[u16],
-    seconds: &[u16],
-    n: u16,
-    entry: Entry,
-    text: &mut [u8],
-    at: usize,
-) -> usize
-    ensures text_after { text.new ≡ written_at text.old at (left_text (entries heads.now seconds.now) n entry) }
-    ensures value { result ≡ place_after text.old at (left_text (entries heads.now seconds.now) n entry) }
+fn fill_left(table: &Table, n: u16, entry: Entry, text: &mut [u8], at: usize) -> usize
+    ensures text_after { text.new ≡ written_at text.old at (left_text (entries_of table.now) n entry) }
+    ensures value { result ≡ place_after text.old at (left_text (entries_of table.now) n entry) }
 {
     match entry {
-        Entry::Implies(a, _) => fill_operand(heads, seconds, n, a, text, at),
-        Entry::And(a, _) => fill_operand(heads, seconds, n, a, text, at),
-        Entry::Or(a, _) => fill_operand(heads, seconds, n, a, text, at),
+        Entry::Implies(a, _) | Entry::And(a, _) | Entry::Or(a, _) => {
+            fill_operand(table, n, a, text, at)
+        }
         Entry::Says(k, _) => fill_principal(k, text, at),
         _ => at,
     }
@@ -91,47 +76,39 @@ fn fill_word(entry: Entry, text: &mut [u8], at: usize) -> usize
 
 // What stands after the word of a compound entry n.
 #[cycle(formula)]
-fn fill_right(
-    heads: &[u16],
-    seconds: &[u16],
-    n: u16,
-    entry: Entry,
-    text: &mut [u8],
-    at: usize,
-) -> usize
-    ensures text_after { text.new ≡ written_at text.old at (right_text (entries heads.now seconds.now) n entry) }
-    ensures value { result ≡ place_after text.old at (right_text (entries heads.now seconds.now) n entry) }
+fn fill_right(table: &Table, n: u16, entry: Entry, text: &mut [u8], at: usize) -> usize
+    ensures text_after { text.new ≡ written_at text.old at (right_text (entries_of table.now) n entry) }
+    ensures value { result ≡ place_after text.old at (right_text (entries_of table.now) n entry) }
 {
     match entry {
-        Entry::Implies(_, b) => fill_operand(heads, seconds, n, b, text, at),
-        Entry::And(_, b) => fill_operand(heads, seconds, n, b, text, at),
-        Entry::Or(_, b) => fill_operand(heads, seconds, n, b, text, at),
-        Entry::Says(_, b) => fill_operand(heads, seconds, n, b, text, at),
+        Entry::Implies(_, b) | Entry::And(_, b) | Entry::Or(_, b) | Entry::Says(_, b) => {
+            fill_operand(table, n, b, text, at)
+        }
         _ => at,
     }
 }
 
 // Writes the text of a number's formula from the place `at` on, as far as there is room, and gives the place after it.
 // All compound kinds share one arm, so that the functions above are compiled into this one and a level of the recursion
-// is one small frame.
+// is one small frame. The table goes by reference: by value each level copies it, and nested operands take some 7 %
+// longer and nearly twice the stack.
 #[cycle(formula)]
-pub fn fill_formula(heads: &[u16], seconds: &[u16], n: u16, text: &mut [u8], at: usize) -> usize
-    ensures text_after { text.new ≡ written_at text.old at (proposition_text (spell (entries heads.now seconds.now) n)) }
-    ensures value { result ≡ place_after text.old at (proposition_text (spell (entries heads.now seconds.now) n)) }
+pub fn fill_formula(table: &Table, n: u16, text: &mut [u8], at: usize) -> usize
+    ensures text_after { text.new ≡ written_at text.old at (proposition_text (spell (entries_of table.now) n)) }
+    ensures value { result ≡ place_after text.old at (proposition_text (spell (entries_of table.now) n)) }
 {
     if at >= text.len() {
         return at;
     }
-    let entry = entry_at(heads, seconds, n);
+    let entry = table.entry_at(n);
     match entry {
-        Entry::Atom(a) => fill_atom(a, text, at),
-        Entry::False => fill(text, at, b"false"),
-        Entry::IllFormed => fill(text, at, b"false"),
+        Entry::Atom(a) => fill_numbered(b"a", a.0, text, at),
+        Entry::False | Entry::IllFormed => fill(text, at, b"false"),
         _ => {
             let mut end = fill(text, at, b"(");
-            end = fill_left(heads, seconds, n, entry, text, end);
+            end = fill_left(table, n, entry, text, end);
             end = fill_word(entry, text, end);
-            end = fill_right(heads, seconds, n, entry, text, end);
+            end = fill_right(table, n, entry, text, end);
             fill(text, end, b")")
         }
     }

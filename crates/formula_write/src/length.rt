@@ -3,27 +3,22 @@
 ghost use Rattle.std.specs.Prelude.{◌+◌, ◌≡◌, List, map, length};
 ghost use Rattle.basics.specs.Written.{written};
 ghost use Rattle.logic.specs.Proposition.{Proposition};
-ghost use Rattle.table.specs.Tests.{entries};
+ghost use Rattle.table.specs.Tests.{entries_of};
 ghost use Rattle.table.specs.Spelled.{among, proposition};
 ghost use Rattle.sentences.specs.Formula.{principal_text};
 ghost use Rattle.formula_write.specs.Length.{capped, length_of, lengths_of};
 
-use table::entry::{Entry, Principal, take_apart};
+use table::entry::{Entry, Formula, Principal, take_apart};
+use table::lent::Table;
 use text::decimal::decimal_length;
 
-const TOO_LONG: usize = 9223372036854775808;
+const TOO_LONG: usize = 1 << 63;
 
 // The length of two texts, one after the other.
 pub fn sum(a: usize, b: usize) -> usize
     ensures { result ≡ capped (a + b) }
 {
-    if a >= TOO_LONG {
-        return TOO_LONG;
-    }
-    if b >= TOO_LONG - a {
-        return TOO_LONG;
-    }
-    a + b
+    a.saturating_add(b).min(TOO_LONG)
 }
 
 // The length of a number's text, where `lengths` has those of the propositions that are made; for a number that has
@@ -31,11 +26,7 @@ pub fn sum(a: usize, b: usize) -> usize
 pub fn formula_length(lengths: &[usize], n: u16) -> usize
     ensures { (made : List Proposition) → lengths.now ≡ map length_of made → result ≡ length_of (among made n) }
 {
-    let i = n as usize;
-    if i < lengths.len() {
-        return lengths[i];
-    }
-    5
+    lengths.get(n as usize).copied().unwrap_or(5)
 }
 
 // "principal 7 is p7"
@@ -45,6 +36,14 @@ pub fn principal_length(k: Principal) -> usize
     sum(1, decimal_length(k.0 as usize))
 }
 
+// The length of the texts of two operands.
+fn operands_length(lengths: &[usize], a: Formula, b: Formula) -> usize
+    ensures { (made : List Proposition) → lengths.now ≡ map length_of made
+        → result ≡ capped (length_of (among made a.0) + length_of (among made b.0)) }
+{
+    sum(formula_length(lengths, a.0), formula_length(lengths, b.0))
+}
+
 // The length of an entry's text. The brackets, the kind's word and the blanks beside it have 11 bytes for implies, 7
 // for and, 6 for or, 8 for says.
 fn entry_length(lengths: &[usize], entry: Entry) -> usize
@@ -52,32 +51,21 @@ fn entry_length(lengths: &[usize], entry: Entry) -> usize
 {
     match entry {
         Entry::Atom(a) => sum(1, decimal_length(a.0 as usize)),
-        Entry::False => 5,
-        Entry::Implies(a, b) => sum(
-            11,
-            sum(formula_length(lengths, a.0), formula_length(lengths, b.0)),
-        ),
-        Entry::And(a, b) => sum(
-            7,
-            sum(formula_length(lengths, a.0), formula_length(lengths, b.0)),
-        ),
-        Entry::Or(a, b) => sum(
-            6,
-            sum(formula_length(lengths, a.0), formula_length(lengths, b.0)),
-        ),
+        Entry::Implies(a, b) => sum(11, operands_length(lengths, a, b)),
+        Entry::And(a, b) => sum(7, operands_length(lengths, a, b)),
+        Entry::Or(a, b) => sum(6, operands_length(lengths, a, b)),
         Entry::Says(k, a) => sum(8, sum(principal_length(k), formula_length(lengths, a.0))),
-        Entry::IllFormed => 5,
+        Entry::False | Entry::IllFormed => 5,
     }
 }
 
 // Writes the length of each number's text, as far as there is room. An entry looks its operands up among those before
 // it, so one that isn't lower has the length of `false`, as it is spelled.
-pub fn measure_formulas(heads: &[u16], seconds: &[u16], lengths: &mut [usize])
-    ensures { lengths.new ≡ written lengths.old (lengths_of (entries heads.now seconds.now)) }
+#[tactic(auto, using(table::proofs::Entries::length_entries))]
+pub fn measure_formulas(table: Table, lengths: &mut [usize])
+    ensures { lengths.new ≡ written lengths.old (lengths_of (entries_of table.entry)) }
 {
-    let mut i = 0;
-    while i < lengths.len() && i < heads.len() && i < seconds.len() {
-        lengths[i] = entry_length(&lengths[..i], take_apart(heads[i], seconds[i]));
-        i += 1;
+    for i in 0..lengths.len().min(table.len()) {
+        lengths[i] = entry_length(&lengths[..i], take_apart(table.heads[i], table.seconds[i]));
     }
 }

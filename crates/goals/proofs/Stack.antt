@@ -10,35 +10,36 @@ use lib.Seq.{get_or-set_same, get_or-set_other}
 use Rattle.goals.specs.declared.kept.Kept.{Kept}
 use Rattle.goals.specs.Goals.{kept}
 
--- those that the first words of two arrays keep, as many as are counted
-unfoldable pub waiting : List ℕ → List ℕ → ℕ → List Kept
-waiting ns bs zero = []
-waiting ns bs (suc count) = kept (get_or ns count 0) (get_or bs count 0) ∷ waiting ns bs count
+-- what stands at a place, anything past the end
+abbrev pub at : List Kept → ℕ → Kept
+at ks i = get_or ks i (kept 0 0)
 
-pub waiting_length : (ns bs : List ℕ) (count : ℕ) → length (waiting ns bs count) ≡ count
+-- the first goals of an array, as many as are counted
+unfoldable pub waiting : List Kept → ℕ → List Kept
+waiting ks zero = []
+waiting ks (suc count) = at ks count ∷ waiting ks count
+
+pub waiting_length : (ks : List Kept) (count : ℕ) → length (waiting ks count) ≡ count
 unfolding waiting
-waiting_length ns bs zero = refl
-waiting_length ns bs (suc count) = ap suc (waiting_length ns bs count)
+waiting_length ks zero = refl
+waiting_length ks (suc count) = ap suc (waiting_length ks count)
 
 -- What is stored past them changes none.
-stored_past : (ns bs : List ℕ) (count at n b : ℕ) → count ≤ at
-    → waiting (set ns at n) (set bs at b) count ≡ waiting ns bs count
+stored_past : (ks : List Kept) (count i : ℕ) (k : Kept) → count ≤ i → waiting (set ks i k) count ≡ waiting ks count
 unfolding waiting
-stored_past ns bs zero at n b l = refl
-stored_past ns bs (suc count) at n b l =
-    ap₂ (λ (k : Kept) (ks : List Kept). k ∷ ks)
-    (ap₂ kept (get_or-set_other ns at count n 0 (omega arith)) (get_or-set_other bs at count b 0 (omega arith)))
-    (stored_past ns bs count at n b (omega arith))
+stored_past ks zero i k l = refl
+stored_past ks (suc count) i k l =
+    ap₂ (λ (k : Kept) (ks : List Kept). k ∷ ks) (get_or-set_other ks i count k (kept 0 0) (omega arith))
+    (stored_past ks count i k (omega arith))
 
-pub pushed : (ns bs : List ℕ) (count n b : ℕ) → count < length ns → count < length bs
-    → waiting (set ns count n) (set bs count b) (count + 1) ≡ kept n b ∷ waiting ns bs count
+pub pushed : (ks : List Kept) (count : ℕ) (k : Kept) → count < length ks
+    → waiting (set ks count k) (count + 1) ≡ k ∷ waiting ks count
 unfolding waiting
-pushed ns bs count n b l m =
-    let below = stored_past ns bs count count n b (omega arith) in
-    rw (add-one count, get_or-set_same ns count n 0 l, get_or-set_same bs count b 0 m, below)
+pushed ks count k l =
+    let below = stored_past ks count count k (omega arith) in
+    rw (add-one count, get_or-set_same ks count k (kept 0 0) l, below)
 
-pub popped : (ns bs : List ℕ) (count : ℕ) → 0 < count
-    → waiting ns bs count ≡ kept (get_or ns (count - 1) 0) (get_or bs (count - 1) 0) ∷ waiting ns bs (count - 1)
+pub popped : (ks : List Kept) (count : ℕ) → 0 < count → waiting ks count ≡ at ks (count - 1) ∷ waiting ks (count - 1)
 unfolding waiting
-popped ns bs zero l = absurd (omega arith)
-popped ns bs (suc count) l = let z : suc count - 1 ≡ count = omega arith in rw z
+popped ks zero l = absurd (omega arith)
+popped ks (suc count) l = let z : suc count - 1 ≡ count = omega arith in rw z

@@ -24,7 +24,7 @@ use Rattle.steps.specs.declared.goal.Goal.TheVariants.{True, Affirms}
 use Rattle.steps.specs.declared.opened.Premise.{Premise}
 use Rattle.steps.specs.declared.opened.Opened as O
 use Rattle.steps.specs.declared.opened.Opened.TheVariants as Opening
-use Rattle.steps.specs.declared.verdict.WalkVerdict.TheVariants.{Closed}
+use Rattle.steps.specs.Verdict.{Closed}
 use Rattle.steps.specs.Obligation.{Obligation, under}
 use Rattle.steps.specs.Applies.{Applies, init, affirm, implies_right, implies_left, false_left, and_right, and_left, or_right_first, or_right_second, or_left, says_right, says_left}
 use Rattle.steps.specs.Step.{rules, unknown, step}

@@ -11,7 +11,7 @@ use borrow.Author.Tests.{le-leb, lt-leb}
 use Rattle.basics.specs.Limits.{most_depth}
 use Rattle.basics.specs.Word.{upper, lower}
 use Rattle.basics.specs.Written.{written}
-use Rattle.basics.proofs.Written.{written_none, written_length, written_store}
+use Rattle.basics.proofs.Written.{written_none, written_store}
 use Rattle.table.specs.declared.entry.Entry.{Entry}
 use Rattle.steps.specs.declared.opened.Opened as O
 use Rattle.steps.specs.declared.opened.Opened.TheVariants as Opening
@@ -29,10 +29,9 @@ use Rattle.rules.specs.Tested.{tested}
 use Rattle.premises.proofs.Counts.{Taken, none_opened, one_opened, two_opened}
 use Rattle.rules.proofs.TestedCounts.{tested_counts}
 use Rattle.goals.specs.declared.kept.Kept.{Kept}
-use Rattle.goals.specs.Kept.{goal_at}
 use Rattle.goals.specs.Goals.{kept, goal_kept, kept_as, premises_kept, opens_freely, goals_from, goals_of, numbers_of, affirms_of}
 use Rattle.goals.specs.Next.{is_refused}
-use Rattle.goals.proofs.Stack.{waiting, waiting_length, pushed, popped}
+use Rattle.goals.proofs.Stack.{at, waiting, waiting_length, pushed, popped}
 
 -- ---- what is written
 
@@ -81,14 +80,6 @@ module _ {all : List Kept} {numbers₀ affirms₀ numbers affirms : List ℕ} {i
   done_all h =
       let is = h.is ∙ append-nil h.done in
       (rw is h.numbers_are, rw is h.affirms_are)
-
-  -- The lists are as long as they were.
-  pub done_lengths : {rest : List Kept} → Done all numbers₀ affirms₀ numbers affirms i rest
-      → (length numbers ≡ length numbers₀) × (length affirms ≡ length affirms₀)
-  done_lengths h = (
-    ap length h.numbers_are ∙ written_length numbers₀ (numbers_of h.done),
-    ap length h.affirms_are ∙ written_length affirms₀ (affirms_of h.done),
-  )
 
 -- ---- a turn
 
@@ -152,43 +143,40 @@ module _ (es : List Entry) where
 
 -- ---- a turn of the code
 
--- The goals of the steps before i are written; from the goal kept in two words and those that wait come the rest.
+-- The goals of the steps before i are written; from the next goal and those that wait come the rest.
 pub record Reached
-    (es : List Entry) (steps : List ℕ) (goal : ℕ) (numbers₀ affirms₀ numbers affirms ns bs : List ℕ)
-    (count number affirm i : ℕ)
+    (es : List Entry) (steps : List ℕ) (goal : ℕ) (numbers₀ affirms₀ numbers affirms : List ℕ) (later : List Kept)
+    (count : ℕ) (next : Kept) (i : ℕ)
     : Type 0 where
   pub so_far : i ≤ length steps
   pub few : count ≤ most_depth
-  pub room : length ns ≡ most_depth
-  pub room_too : length bs ≡ most_depth
+  pub room : length later ≡ most_depth
   pub is_done :
       Done (goals_of es steps goal) numbers₀ affirms₀ numbers affirms i
-      (goals_from es (drop i steps) (kept number affirm ∷ waiting ns bs count))
+      (goals_from es (drop i steps) (next ∷ waiting later count))
 
 -- That of step i is written too, and the rule of its code leaves these premises for the goal g, as many as its row has.
 pub record Turned
-    (es : List Entry) (steps : List ℕ) (goal : ℕ) (numbers₀ affirms₀ numbers affirms ns bs : List ℕ)
+    (es : List Entry) (steps : List ℕ) (goal : ℕ) (numbers₀ affirms₀ numbers affirms : List ℕ) (later : List Kept)
     (count number i code : ℕ) (g : Goal) (ps : Premises)
     : Type 0 where
   pub so_far : i + 1 ≤ length steps
   pub few : count ≤ most_depth
-  pub room : length ns ≡ most_depth
-  pub room_too : length bs ≡ most_depth
+  pub room : length later ≡ most_depth
   pub is_done :
       Done (goals_of es steps goal) numbers₀ affirms₀ numbers affirms (i + 1)
-      (onward es (opened g ps) number (drop (i + 1) steps) (waiting ns bs count))
+      (onward es (opened g ps) number (drop (i + 1) steps) (waiting later count))
   pub counts : OfPremises (Counted code) (opened g ps)
 
 -- Before the first step, the goal is open and none waits.
-pub reached_none : (es : List Entry) (steps : List ℕ) (goal : ℕ) (numbers affirms ns bs : List ℕ)
-    → length ns ≡ most_depth → length bs ≡ most_depth
-    → Reached es steps goal numbers affirms numbers affirms ns bs 0 goal 0 0
+pub reached_none : (es : List Entry) (steps : List ℕ) (goal : ℕ) (numbers affirms : List ℕ) (later : List Kept)
+    → length later ≡ most_depth
+    → Reached es steps goal numbers affirms numbers affirms later 0 (kept goal 0) 0
 unfolding waiting
-reached_none es steps goal numbers affirms ns bs room room_too = record {
+reached_none es steps goal numbers affirms later room = record {
   so_far = omega arith;
   few = omega arith;
   room = room;
-  room_too = room_too;
   is_done = done_none (goals_of es steps goal) numbers affirms;
 }
 
@@ -198,12 +186,9 @@ Writes es steps goal numbers₀ affirms₀ numbers affirms =
     (numbers ≡ written numbers₀ (numbers_of (goals_of es steps goal)))
     × (affirms ≡ written affirms₀ (affirms_of (goals_of es steps goal)))
 
-module _ {es : List Entry} {steps : List ℕ} {goal : ℕ} {numbers₀ affirms₀ numbers affirms ns bs : List ℕ}
-    {count number i : ℕ} where
-  module _ {affirm : ℕ} (h : Reached es steps goal numbers₀ affirms₀ numbers affirms ns bs count number affirm i) where
-    pub reached_lengths : (length numbers ≡ length numbers₀) × (length affirms ≡ length affirms₀)
-    reached_lengths = done_lengths h.is_done
-
+module _ {es : List Entry} {steps : List ℕ} {goal : ℕ} {numbers₀ affirms₀ numbers affirms : List ℕ} {later : List Kept}
+    {count i : ℕ} where
+  module _ {next : Kept} (h : Reached es steps goal numbers₀ affirms₀ numbers affirms later count next i) where
     -- No step is left.
     pub steps_end : length steps ≤ i → Writes es steps goal numbers₀ affirms₀ numbers affirms
     unfolding goals_from
@@ -211,33 +196,29 @@ module _ {es : List Entry} {steps : List ℕ} {goal : ℕ} {numbers₀ affirms�
 
     -- The goal is stored, and the rule of the step's code applied to it.
     pub turned : {numbers' affirms' : List ℕ} {code part : ℕ} {here : Goal} {ps : Premises}
-        → i < length steps → numbers' ≡ set numbers i number → affirms' ≡ set affirms i affirm
-        → here ≡ goal_at es number affirm → code ≡ upper (get_or steps i 0) → part ≡ lower (get_or steps i 0)
+        → i < length steps → numbers' ≡ set numbers i next.number → affirms' ≡ set affirms i next.affirms
+        → here ≡ goal_kept es next → code ≡ upper (get_or steps i 0) → part ≡ lower (get_or steps i 0)
         → opened here ps ≡ tested (get_or (rules same es) code unknown) true part here
-        → Turned es steps goal numbers₀ affirms₀ numbers' affirms' ns bs count number i code here ps
+        → Turned es steps goal numbers₀ affirms₀ numbers' affirms' later count next.number i code here ps
     turned {code = code} {part} {here} {ps} l n b goal_is code_is part_is x-is =
-        let opens : opened here ps ≡ opens_freely es (get_or steps i 0) (goal_at es number affirm) =
+        let opens : opened here ps ≡ opens_freely es (get_or steps i 0) (goal_kept es next) =
         x-is ∙ rw (goal_is, code_is, part_is) in
-        let fits : length (waiting ns bs count) ≤ most_depth = rw waiting_length h.few in
-        let next = turn es steps i (kept number affirm) (waiting ns bs count) l fits opens in record {
+        let fits : length (waiting later count) ≤ most_depth = rw waiting_length h.few in
+        let on = turn es steps i next (waiting later count) l fits opens in record {
           so_far = omega arith;
           few = h.few;
           room = h.room;
-          room_too = h.room_too;
-          is_done = done_next (rw next at h.is_done) n b;
+          is_done = done_next (rw on at h.is_done) n b;
           counts = rw x-is (tested_counts es code true part here);
         }
 
-  module _ {code : ℕ} {g : Goal} {ps : Premises}
-      (h : Turned es steps goal numbers₀ affirms₀ numbers affirms ns bs count number i code g ps) where
-    pub turned_lengths : (length numbers ≡ length numbers₀) × (length affirms ≡ length affirms₀)
-    turned_lengths = done_lengths h.is_done
-
+  module _ {number code : ℕ} {g : Goal} {ps : Premises}
+      (h : Turned es steps goal numbers₀ affirms₀ numbers affirms later count number i code g ps) where
     -- Refused: the goals end.
     pub ends_refused : {r : Bool} → r ≡ is_refused (opened g ps) → r ≡ true
         → Writes es steps goal numbers₀ affirms₀ numbers affirms
     ends_refused r-is e =
-        let on = on_refused es number (drop (i + 1) steps) (waiting ns bs count) (opened g ps) (sym r-is ∙ e) in
+        let on = on_refused es number (drop (i + 1) steps) (waiting later count) (opened g ps) (sym r-is ∙ e) in
         done_all (rw on at h.is_done)
 
     -- Not refused, and c is the count of its code.
@@ -247,65 +228,59 @@ module _ {es : List Entry} {steps : List ℕ} {goal : ℕ} {numbers₀ affirms�
       pub ends_closed : c ≡ 0 → count ≡ 0 → Writes es steps goal numbers₀ affirms₀ numbers affirms
       unfolding waiting
       ends_closed z none =
-          let on = on_closed es number (drop (i + 1) steps) (waiting ns bs count) code g (opened g ps) h.counts
+          let on = on_closed es number (drop (i + 1) steps) (waiting later count) code g (opened g ps) h.counts
           (sym r-is ∙ e) c-is z in
-          let empty : waiting ns bs count ≡ [] = rw none in
+          let empty : waiting later count ≡ [] = rw none in
           done_all (rw (on, empty, none_open es (drop (i + 1) steps)) at h.is_done)
 
       pub ends_full : 1 < c → count ≡ most_depth → Writes es steps goal numbers₀ affirms₀ numbers affirms
       ends_full two full =
-          let all-wait = waiting_length ns bs count ∙ full in
-          let on = on_full es number (drop (i + 1) steps) (waiting ns bs count) code g (opened g ps) h.counts
+          let all-wait = waiting_length later count ∙ full in
+          let on = on_full es number (drop (i + 1) steps) (waiting later count) code g (opened g ps) h.counts
           (sym r-is ∙ e) c-is two all-wait in
           done_all (rw on at h.is_done)
 
       -- No premise: the last that waits is next.
       pub goes_back : c ≡ 0 → ¬ (count ≡ 0)
-          → Reached es steps goal numbers₀ affirms₀ numbers affirms ns bs (count - 1)
-          (get_or ns (count - 1) 0) (get_or bs (count - 1) 0) (i + 1)
+          → Reached es steps goal numbers₀ affirms₀ numbers affirms later (count - 1) (at later (count - 1)) (i + 1)
       goes_back z some =
-          let on = on_closed es number (drop (i + 1) steps) (waiting ns bs count) code g (opened g ps) h.counts
+          let on = on_closed es number (drop (i + 1) steps) (waiting later count) code g (opened g ps) h.counts
           (sym r-is ∙ e) c-is z in
-          let top = popped ns bs count (omega (arith, some)) in record {
+          let top = popped later count (omega (arith, some)) in record {
             so_far = h.so_far;
             few = omega (arith, h.few);
             room = h.room;
-            room_too = h.room_too;
             is_done = rw (on, top) at h.is_done;
           }
 
       -- One premise: it is next.
       pub goes_on : {first : Premise} {next : Kept} → ¬ (c ≡ 0) → c ≤ 1
           → first ≡ first_of g (opened g ps) → next ≡ kept_as number first.goal
-          → Reached es steps goal numbers₀ affirms₀ numbers affirms ns bs count next.number next.affirms (i + 1)
+          → Reached es steps goal numbers₀ affirms₀ numbers affirms later count next (i + 1)
       goes_on z most first_is next-is =
-          let on = on_one es number (drop (i + 1) steps) (waiting ns bs count) code g (opened g ps) h.counts
+          let on = on_one es number (drop (i + 1) steps) (waiting later count) code g (opened g ps) h.counts
           (sym r-is ∙ e) c-is (omega (arith, z)) in
           record {
             so_far = h.so_far;
             few = h.few;
             room = h.room;
-            room_too = h.room_too;
             is_done = rw (next-is, first_is) (rw on at h.is_done);
           }
 
       -- Two: the first is next and the last waits.
-      pub goes_down : {first last : Premise} {next later : Kept} → 1 < c → ¬ (count ≡ most_depth)
+      pub goes_down : {first last : Premise} {next k : Kept} → 1 < c → ¬ (count ≡ most_depth)
           → first ≡ first_of g (opened g ps) → next ≡ kept_as number first.goal
-          → last ≡ last_of g (opened g ps) → later ≡ kept_as number last.goal
-          → Reached es steps goal numbers₀ affirms₀ numbers affirms (set ns count later.number)
-          (set bs count later.affirms) (count + 1) next.number next.affirms (i + 1)
-      goes_down {later = later} two some first_is next-is last-is later-is =
+          → last ≡ last_of g (opened g ps) → k ≡ kept_as number last.goal
+          → Reached es steps goal numbers₀ affirms₀ numbers affirms (set later count k) (count + 1) next (i + 1)
+      goes_down {k = k} two some first_is next-is last-is k-is =
           let room = h.room in
-          let room_too = h.room_too in
           let few = h.few in
           let less : count < most_depth = omega (arith, some) in
-          let on = on_two es number (drop (i + 1) steps) (waiting ns bs count) code g (opened g ps) h.counts
+          let on = on_two es number (drop (i + 1) steps) (waiting later count) code g (opened g ps) h.counts
           (sym r-is ∙ e) c-is two in
-          let top = pushed ns bs count later.number later.affirms (omega arith) (omega arith) in record {
+          let top = pushed later count k (omega arith) in record {
             so_far = h.so_far;
             few = omega arith;
-            room = length-set ns count later.number ∙ room;
-            room_too = length-set bs count later.affirms ∙ room_too;
-            is_done = rw (top, next-is, first_is, later-is, last-is) (rw on at h.is_done);
+            room = length-set later count k ∙ room;
+            is_done = rw (top, next-is, first_is, k-is, last-is) (rw on at h.is_done);
           }

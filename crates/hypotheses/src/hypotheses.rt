@@ -1,5 +1,6 @@
 // The hypotheses held, as slots: in their first half a mark for each formula number, in their second half the list of
-// hypotheses, each once, in the order in which they came.
+// hypotheses, each once, in the order in which they came. They are one slice, lent with a count beside it: that is what
+// the definitions of Slots.antt speak of, and there is no heap for a set.
 ghost use Rattle.std.specs.Prelude.{◌≡◌};
 ghost use Rattle.hypotheses.specs.Slots.{is_held, held_one, count_one, held_all, count_all, released};
 
@@ -14,7 +15,7 @@ pub fn is_held(slots: &[u16], n: u16) -> bool
 }
 
 // Holds the formula of a number, unless it is held already: it takes the place after so many hypotheses. Answers how
-// many there are then.
+// many there are then. (`hold_all` has numbers that are no goals, and `table` makes a `Formula` only of a goal's.)
 fn hold_number(slots: &mut [u16], held: usize, n: u16) -> usize
     ensures value { result ≡ count_one slots.old held n }
     ensures slots_after { slots.new ≡ held_one slots.old held n }
@@ -43,9 +44,7 @@ pub fn release(slots: &mut [u16], from: usize, to: usize)
     ensures { slots.new ≡ released slots.old from to }
 {
     let half = slots.len() / 2;
-    let mut i = if to < half { to } else { half };
-    while from < i {
-        i -= 1;
+    for i in (from..to.min(half)).rev() {
         let n = slots[half + i] as usize;
         if n < half {
             slots[n] = 0;
@@ -59,10 +58,8 @@ pub fn hold_all(slots: &mut [u16], statements: &[u16]) -> usize
     ensures slots_after { slots.new ≡ held_all slots.old 0 statements.now }
 {
     let mut held = 0;
-    let mut i = 0;
-    while i < statements.len() {
-        held = hold_number(slots, held, statements[i]);
-        i += 1;
+    for &n in statements {
+        held = hold_number(slots, held, n);
     }
     held
 }

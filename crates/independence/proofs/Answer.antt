@@ -7,9 +7,10 @@ use mathlib.Core.Path.{◌≡◌, refl, sym}
 use mathlib.Core.Logic.Iff
 use mathlib.Core.Logic.{◌↔◌, ◌⊎◌, inl, inr, ⊎_elim}
 use mathlib.Core.List.{List, [], ◌∷◌}
-use Rattle.basics.specs.declared.place.Place.TheVariants.{At}
-use Rattle.basics.specs.declared.tested.Tested.{Tested}
-use Rattle.basics.specs.declared.tested.Tested.TheVariants as Outcome
+use Rattle.std.specs.Prelude.{Err}
+use Rattle.basics.specs.Place.{At}
+use Rattle.basics.specs.Tested.{Tested}
+use Rattle.basics.specs.Tested as Outcome
 use Rattle.basics.specs.Choice.{pick}
 use Rattle.basics.specs.Limits.{most_principals}
 use Rattle.basics.specs.Membership.{holds}
@@ -22,7 +23,7 @@ use Rattle.record.specs.Answer.{tests_to7}
 use Rattle.record.specs.Proof.{Keeps, stated_by, goal_of}
 use Rattle.record.proofs.Keeps.{none_to_7}
 use Rattle.record.proofs.Kept.{reasons_to_7}
-use Rattle.independence.specs.declared.verdict.IndependenceVerdict.TheVariants.{Independent, NotIndependent, Refused}
+use Rattle.independence.specs.Verdict.{Independent, NotIndependent, Refused}
 use Rattle.independence.specs.Test.{is_independent}
 use Rattle.independence.specs.Answer.{principal_outside, tests, independence_answer}
 use Rattle.independence.specs.Promises.{IndependentExactly, NotIndependentExactly, independence_order, IndependenceReason, of_record, principal_outside as principal_outside_reason, RefusedExactly}
@@ -40,23 +41,23 @@ not_answered e = let z : ◌≡◌ {A = ℕ} 0 1 = cc in omega arith
 pub not_denied : {number p : ℕ} → Refused number p ≡ NotIndependent → ⊥
 not_denied e = let z : ◌≡◌ {A = ℕ} 0 1 = cc in omega arith
 
-says_independent : (t : Tested) (b : Bool) → unless_refused Refused t (pick b Independent NotIndependent) ≡ Independent
+says_independent : (t : Tested) (b : Bool) → unless_refused t (pick b Independent NotIndependent) ≡ Independent
     ↔ ((t ≡ Outcome.Passed) × (b ≡ true))
 says_independent Outcome.Passed true = (λ e. (refl, refl), λ e. refl)
 says_independent Outcome.Passed false = (λ e. absurd (not_independent (sym e)), λ (_, e). absurd (true≢false (sym e)))
-says_independent (Outcome.Refused m q) b = (λ e. absurd (not_answered e), λ (e, _). absurd (not_passed e))
+says_independent (Err r) b = (λ e. absurd (not_answered e), λ (e, _). absurd (not_passed e))
 
-denies : (t : Tested) (b : Bool) → unless_refused Refused t (pick b Independent NotIndependent) ≡ NotIndependent
+denies : (t : Tested) (b : Bool) → unless_refused t (pick b Independent NotIndependent) ≡ NotIndependent
     ↔ ((t ≡ Outcome.Passed) × (b ≡ false))
 denies Outcome.Passed true = (λ e. absurd (not_independent e), λ (_, e). absurd (true≢false e))
 denies Outcome.Passed false = (λ e. (refl, refl), λ e. refl)
-denies (Outcome.Refused m q) b = (λ e. absurd (not_denied e), λ (e, _). absurd (not_passed e))
+denies (Err r) b = (λ e. absurd (not_denied e), λ (e, _). absurd (not_passed e))
 
 refuses : (t : Tested) (b : Bool) (number p : ℕ)
-    → unless_refused Refused t (pick b Independent NotIndependent) ≡ Refused number p ↔ t ≡ Outcome.Refused number p
+    → unless_refused t (pick b Independent NotIndependent) ≡ Refused number p ↔ t ≡ Outcome.Refused number p
 refuses Outcome.Passed true number p = (λ e. absurd (not_answered (sym e)), λ e. absurd (not_passed (sym e)))
 refuses Outcome.Passed false number p = (λ e. absurd (not_denied (sym e)), λ e. absurd (not_passed (sym e)))
-refuses (Outcome.Refused m q) b number p = (λ e. cc, λ e. cc)
+refuses (Err r) b number p = (λ e. cc, λ e. cc)
 
 -- ---- independent, or not
 

@@ -38,7 +38,7 @@ use Rattle.record.specs.Promises.{SameButStatements, GrantSays}
 use Rattle.record.proofs.Carries.{signers_carry}
 use Rattle.record.proofs.Granted.{granted_exactly}
 use Rattle.record.proofs.SameSet.{same_table}
-use Rattle.independence.specs.declared.verdict.IndependenceVerdict.TheVariants.{Independent}
+use Rattle.independence.specs.Verdict.{Independent}
 use Rattle.independence.specs.Answer.{independence_answer}
 use Rattle.independence.specs.SameProofs.{HasOthers}
 use Rattle.independence.specs.Promises.{SameButFor, SameWordsSay, SameWords, NeverSigns}

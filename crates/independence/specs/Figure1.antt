@@ -5,7 +5,7 @@ use Rattle.std.specs.Prelude.{ℕ, Bool, List}
 use Rattle.logic.specs.Proposition.{Proposition}
 use Rattle.logic.specs.Figure1.{Same}
 use Rattle.steps.specs.Figure1.{same}
-use Rattle.independence.specs.declared.verdict.IndependenceVerdict.{IndependenceVerdict}
+use Rattle.independence.specs.Verdict.{IndependenceVerdict}
 use Rattle.independence.specs.Test as AnyTest
 use Rattle.independence.specs.Answer as Every
 use Rattle.independence.specs.SameProofs as AnyProofs

@@ -2,6 +2,7 @@
 -- on propositions; what it answers for a file; proofs that stay, over derivations; what is promised; all this for
 -- Figure 1; and samples. Sides are in logic/specs/Sides.antt.
 pub mod Test
+pub mod Verdict
 pub mod Answer
 pub mod SameProofs
 pub mod Unmentioned

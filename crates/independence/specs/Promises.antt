@@ -1,7 +1,7 @@
 -- What is promised of the test whether a principal can matter (02, job 5), for every test on principals and the
 -- relation that it decides. Each is proved in proofs/ under its name in small letters, and fixed to Figure 1 in
 -- Figure1.antt. Assumes nothing.
-use Rattle.std.specs.Prelude.{ℕ, suc, ◌≤◌, ◌<◌, Bool, ◌≡◌, ◌↔◌, List, [], ◌∷◌, length, take}
+use Rattle.std.specs.Prelude.{ℕ, suc, ◌≤◌, ◌<◌, Bool, ◌≡◌, ◌↔◌, List, [], ◌∷◌, length, take, Err}
 use Rattle.basics.specs.Membership.{◌∈◌}
 use Rattle.basics.specs.Limits.{most_steps, most_principals}
 use Rattle.basics.specs.Order.{FirstReason}
@@ -9,14 +9,13 @@ use Rattle.logic.specs.Principals.{Relation}
 use Rattle.logic.specs.Signed.{SignedBy, Himself}
 use Rattle.logic.specs.Sides as Sides
 use Rattle.table.specs.Spelled.{spell}
-use Rattle.record.specs.declared.verdict.RecordVerdict.TheVariants.{Granted}
+use Rattle.record.specs.Verdict.{Granted}
 use Rattle.record.specs.Layout.{goal, heads, seconds, statements, table, most_bytes, signers}
 use Rattle.record.specs.Answer.{record_answer}
 use Rattle.record.specs.Proof.{Sized, Keeps, stated_by, goal_of, IsProof}
 use Rattle.record.specs.Reasons.{Reason}
 use Rattle.record.specs.Promises.{SameButStatements}
-use Rattle.independence.specs.declared.verdict.IndependenceVerdict.{IndependenceVerdict}
-use Rattle.independence.specs.declared.verdict.IndependenceVerdict.TheVariants.{Independent, NotIndependent, Refused}
+use Rattle.independence.specs.Verdict.{IndependenceVerdict, Independent, NotIndependent, Refused}
 use Rattle.independence.specs.Answer.{independence_answer}
 
 -- ---- the answer
@@ -45,7 +44,7 @@ independence_order = 1 ∷ 2 ∷ 3 ∷ 4 ∷ 5 ∷ 6 ∷ 7 ∷ 17 ∷ []
 abbrev pub Small : IndependenceVerdict → Type 0
 Small Independent = Unit
 Small NotIndependent = Unit
-Small (Refused number p) = (1 ≤ number) × (number ≤ 17) × (p ≤ most_steps)
+Small (Err refusal) = (1 ≤ refusal.number) × (refusal.number ≤ 17) × (refusal.place ≤ most_steps)
 
 module _ (speaks : ℕ → ℕ → Bool) where
   -- A reason to refuse: one of 1 to 7 as a record has it (record/specs/Reasons.antt; no list is lent), or 17.

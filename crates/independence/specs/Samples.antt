@@ -10,8 +10,7 @@ use Rattle.logic.specs.Figure1 as Figure1
 use Rattle.steps.specs.Figure1.{same}
 use Rattle.record.specs.Samples.{over_t, bytes_of_a}
 use Rattle.record.specs.Proof.{stated_by, goal_of}
-use Rattle.independence.specs.declared.verdict.IndependenceVerdict.{IndependenceVerdict}
-use Rattle.independence.specs.declared.verdict.IndependenceVerdict.TheVariants.{Independent, NotIndependent, Refused}
+use Rattle.independence.specs.Verdict.{IndependenceVerdict, Independent, NotIndependent, Refused}
 use Rattle.independence.specs.Test.{is_independent}
 use Rattle.independence.specs.SameProofs.{HasOthers}
 use Rattle.independence.specs.Promises.{SameButFor}

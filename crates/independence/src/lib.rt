@@ -1,4 +1,2 @@
-// The answer of the test whether a principal can matter. `independence_check` has the call.
+// Whether a principal can matter: definitions and theorems, no code. `independence_check` has that.
 #![tactic(auto)]
-
-pub mod verdict;

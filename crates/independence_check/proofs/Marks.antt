@@ -4,23 +4,16 @@ use mathlib.Core.Bool.{Bool, false, ◌||◌}
 use mathlib.Core.Path.{◌≡◌, refl, sym, ap, ap₂, ◌∙◌}
 use mathlib.Core.Logic.{◌⊎◌, ⊎_elim}
 use mathlib.Core.List.{List, map}
-use lib.ListN.{length, get_or, take, get_or-map, length-map}
+use lib.ListN.{get_or, get_or-map}
 use Rattle.logic.specs.Proposition.{Proposition, false as falsum}
 use Rattle.logic.specs.Sides.{Side, proving}
 use Rattle.table.specs.declared.entry.Formula.{Formula}
 use Rattle.table.specs.declared.entry.Principal.{Principal}
 use Rattle.table.specs.declared.entry.Entry.{Entry}
 use Rattle.table.specs.declared.entry.Entry.TheVariants.{Atom, False, Implies, And, Or, Says, IllFormed}
-use Rattle.table.specs.Spelled.{among, proposition, spelled}
-use Rattle.table.proofs.Spelled.{length_spelled}
+use Rattle.table.specs.Spelled.{among, proposition}
 use Rattle.steps.specs.Figure1.{same}
-use Rattle.independence.specs.Test.{is_own, proving_says}
-
--- The marks of a table are as many as its entries.
-pub marks_long : (K : ℕ) (s : Side) (es : List Entry) (marks : List Bool) {F : ℕ} → F ≡ length es
-    → take F marks ≡ map (proving_says same K s) (spelled es) → F ≡ length (take F marks)
-marks_long K s es marks e is =
-    e ∙ sym (length_spelled es) ∙ sym (length-map (spelled es) (proving_says same K s)) ∙ sym (ap length is)
+use Rattle.independence.specs.Test.{proving_says}
 
 -- ---- an entry's operands
 
@@ -45,13 +38,6 @@ module _ (K : ℕ) (made : List Proposition) where
       → m ≡ get_or lefts a false → n ≡ get_or rights b false
       → m || n ≡ proving_says same K t (among made a) || proving_says same K s (among made b)
   in_either t s a b l r e f = ap₂ ◌||◌ (e ∙ mark_of t a l) (f ∙ mark_of s b r)
-
-  -- It is the same of the same operands.
-  pub operands_are : (s : Side) {a b f g : Formula} → a ≡ f → b ≡ g
-      → proving_says same K s (among made a.0) || proving_says same K s (among made b.0)
-      ≡ proving_says same K s (among made f.0) || proving_says same K s (among made g.0)
-  operands_are s =
-      ap₂ (λ (f g : Formula). proving_says same K s (among made f.0) || proving_says same K s (among made g.0))
 
   -- The operands of an and, and of an or, keep the side.
   pub keeps_side : (s : Side) {a b : Formula} {e : Entry} → e ≡ And a b ⊎ e ≡ Or a b
@@ -80,15 +66,3 @@ module _ (K : ℕ) (made : List Proposition) where
   none_inside s (Or f g) i n o h = absurd (o f g refl)
   none_inside s (Says k f) i n o h = absurd (h k f refl)
   none_inside s IllFormed i n o h = refl
-
-  -- ---- whose it is
-
-  -- An entry of another kind than says is nobody's own.
-  pub not_own : (e : Entry) → ((k : Principal) (f : Formula) → e ≡ Says k f → ⊥) → false ≡ is_own K (proposition made e)
-  not_own (Atom a) h = refl
-  not_own False h = refl
-  not_own (Implies f g) h = refl
-  not_own (And f g) h = refl
-  not_own (Or f g) h = refl
-  not_own (Says k f) h = absurd (h k f refl)
-  not_own IllFormed h = refl

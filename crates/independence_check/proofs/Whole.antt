@@ -1,13 +1,14 @@
 -- The parts of the test are `arrays_answer`, and over the arrays of a file `independence_answer`. Assumes nothing.
 use Prim.Native.Nat.{ℕ, ◌≤◌, ◌<◌}
-use mathlib.Core.Bool.{Bool, true, not}
-use mathlib.Core.Path.{◌≡◌, sym, ap, ◌∙◌}
+use mathlib.Core.Bool.{Bool, true, false, not}
+use mathlib.Core.Path.{◌≡◌, refl, sym, ap, ◌∙◌}
 use mathlib.Core.List.{List, [], ◌∷◌}
 use lib.ListN.{length, drop}
 use lib.Dec.{leb}
 use borrow.Author.Tests.{le-leb, lt-leb}
-use Rattle.basics.specs.declared.tested.Tested.{Tested}
-use Rattle.basics.specs.declared.tested.Tested.TheVariants as Outcome
+use Rattle.std.specs.Prelude.{Ok}
+use Rattle.basics.specs.Tested.{Tested}
+use Rattle.basics.specs.Tested as Outcome
 use Rattle.basics.specs.Choice.{pick}
 use Rattle.basics.specs.Limits.{most_statements, most_principals}
 use Rattle.basics.specs.Refusals.{Test, test, first_refusal, unless_refused}
@@ -26,14 +27,18 @@ use Rattle.record.proofs.LayoutIs.{sized}
 use Rattle.record.proofs.Lengths.{length_heads}
 use Rattle.record_check.specs.Parts.{part_tests, sizes_fit}
 use Rattle.record_check.proofs.Whole.{sizes_fit_lem}
-use Rattle.independence.specs.declared.verdict.IndependenceVerdict.{IndependenceVerdict}
-use Rattle.independence.specs.declared.verdict.IndependenceVerdict.TheVariants.{Independent, NotIndependent, Refused}
+use Rattle.independence.specs.Verdict.{IndependenceVerdict, Independent, NotIndependent, Refused}
 use Rattle.independence.specs.Answer as Every
 use Rattle.independence.specs.Answer.{principal_outside, tests}
 use Rattle.independence.specs.Figure1.{independence_answer}
 use Rattle.independence_check.specs.Parts.{arrays_tests, arrays_independent, arrays_verdict, arrays_answer, PartsOfFile}
 
 -- ---- over arrays
+
+-- Independent or not is what the test says.
+answered : (b : Bool) → Ok b ≡ pick b Independent NotIndependent
+answered true = refl
+answered false = refl
 
 module _ (heads seconds statements : List ℕ) (goal K : ℕ) where
   abbrev to_7 : List Test
@@ -43,7 +48,7 @@ module _ (heads seconds statements : List ℕ) (goal K : ℕ) where
   only_17 = test 17 (principal_outside K) ∷ []
 
   abbrev answer : Tested → IndependenceVerdict
-  answer t = unless_refused Refused t (arrays_verdict heads seconds statements goal K)
+  answer t = unless_refused t (arrays_verdict heads seconds statements goal K)
 
   module _ {t : Tested} (parts : t ≡ first_refusal to_7) where
     pub refused_to_7 : {number p : ℕ} → t ≡ Outcome.Refused number p → Refused number p
@@ -58,11 +63,12 @@ module _ (heads seconds statements : List ℕ) (goal K : ℕ) where
       refused_17 l = ap answer (sym (after_7 ∙ applies_at_0 17 [] (le-leb _ _ l)))
 
       -- Else the test of sides decides, of the principal asked about.
-      pub decided : {k : Principal} {b : Bool} (t : Bool) → K < most_principals → k ≡ principal K
-          → b ≡ arrays_independent heads seconds statements goal k.0 → b ≡ t
-          → pick t Independent NotIndependent ≡ arrays_answer heads seconds statements goal K
-      decided t l asked is e =
-          ap (λ (b : Bool). pick b Independent NotIndependent) (sym e ∙ is)
+      pub decided : {k : Principal} {b : Bool} → K < most_principals → k ≡ principal K
+          → b ≡ arrays_independent heads seconds statements goal k.0
+          → Ok b ≡ arrays_answer heads seconds statements goal K
+      decided {b = b} l asked is =
+          answered b
+          ∙ ap (λ (b : Bool). pick b Independent NotIndependent) is
           ∙ ap
           (λ (k : Principal). pick (arrays_independent heads seconds statements goal k.0) Independent NotIndependent)
           asked
@@ -88,7 +94,7 @@ module _ (file : List ℕ) where
       → t ≡ Outcome.Refused number p → Refused number p ≡ independence_answer file K
   unfolding Every.independence_answer
   layout_refused K answered e =
-      ap (λ (t : Tested). unless_refused Refused t (Every.verdict same file K))
+      ap (λ (t : Tested). unless_refused t (Every.verdict same file K))
       (sym (joined_refused (layout_tests record_layout file) (from_4 K) (sym answered ∙ e)))
 
   module _ (s : Sized file) where
@@ -104,7 +110,7 @@ module _ (file : List ℕ) where
     answers : (K : ℕ) → arrays_answer (heads file) (seconds file) (statements file) (goal file) K
         ≡ independence_answer file K
     unfolding Every.independence_answer
-    answers K = ap (λ (t : Tested). unless_refused Refused t (Every.verdict same file K)) (tests_from_4 K)
+    answers K = ap (λ (t : Tested). unless_refused t (Every.verdict same file K)) (tests_from_4 K)
 
     -- The same over the parts that the code took.
     pub whole : (K : ℕ) {hs ss ns : List ℕ} {g : ℕ} {v : IndependenceVerdict}

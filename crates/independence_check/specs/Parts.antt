@@ -8,8 +8,7 @@ use Rattle.table.specs.Spelled.{spell, spell_all}
 use Rattle.record.specs.Layout.{heads, seconds, statements, goal}
 use Rattle.record.specs.Proof.{Sized}
 use Rattle.record_check.specs.Parts.{part_tests}
-use Rattle.independence.specs.declared.verdict.IndependenceVerdict.{IndependenceVerdict}
-use Rattle.independence.specs.declared.verdict.IndependenceVerdict.TheVariants.{Independent, NotIndependent, Refused}
+use Rattle.independence.specs.Verdict.{IndependenceVerdict, Independent, NotIndependent, Refused}
 use Rattle.independence.specs.Answer.{principal_outside}
 use Rattle.independence.specs.Figure1.{is_independent, independence_answer}
 
@@ -29,7 +28,7 @@ arrays_verdict heads seconds statements goal K =
 
 abbrev pub arrays_answer : List ℕ → List ℕ → List ℕ → ℕ → ℕ → IndependenceVerdict
 arrays_answer heads seconds statements goal K =
-    unless_refused Refused (first_refusal (arrays_tests heads seconds statements goal K))
+    unless_refused (first_refusal (arrays_tests heads seconds statements goal K))
     (arrays_verdict heads seconds statements goal K)
 
 -- Over the arrays of a file that 1 to 3 let pass this is the file's answer. Proved in proofs/Whole.antt.

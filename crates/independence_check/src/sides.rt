@@ -3,12 +3,13 @@
 // says-formula that counts stands, where the formula itself stands on that side; each from the marks of its operands.
 ghost use Rattle.std.specs.Prelude.{◌≤◌, length};
 ghost use Rattle.logic.specs.Sides as Sides;
-ghost use Rattle.table.specs.Tests.{entries};
+ghost use Rattle.table.specs.Tests.{entries_of};
 ghost use Rattle.independence_check.specs.SideMarks.{MarkedFor, MarksOf};
 
 use deputies_check::speaks::speaks_for;
 use marks::is_set;
 use table::entry::{Entry, Principal, take_apart};
+use table::lent::Table;
 
 // Whether a says-formula that counts stands in a formula, where that itself stands on the proving side, and where it
 // stands on the given side.
@@ -44,24 +45,16 @@ fn marks_of(proving: &[bool], given: &[bool], k: Principal, entry: Entry) -> Mar
 
 // Marks each formula for both sides. An entry looks its operands up among those before it, so one that isn't lower
 // counts as false, as it is spelled.
-pub(crate) fn mark_sides(
-    heads: &[u16],
-    seconds: &[u16],
-    k: Principal,
-    proving: &mut [bool],
-    given: &mut [bool],
-)
-    requires proving_room { length (entries heads.now seconds.now) ≤ length proving.old }
-    requires given_room { length (entries heads.now seconds.now) ≤ length given.old }
-    ensures proving_after { MarkedFor Sides.proving k.0 heads.now seconds.now proving.new }
-    ensures given_after { MarkedFor Sides.given k.0 heads.now seconds.now given.new }
+pub(crate) fn mark_sides(table: Table, k: Principal, proving: &mut [bool], given: &mut [bool])
+    requires proving_room { length (entries_of table) ≤ length proving.old }
+    requires given_room { length (entries_of table) ≤ length given.old }
+    ensures proving_after { MarkedFor Sides.proving k.0 table.entry.heads.now table.entry.seconds.now proving.new }
+    ensures given_after { MarkedFor Sides.given k.0 table.entry.heads.now table.entry.seconds.now given.new }
 {
-    let mut i = 0;
-    while i < heads.len() && i < seconds.len() {
-        let entry = take_apart(heads[i], seconds[i]);
+    for i in 0..table.heads.len().min(table.seconds.len()) {
+        let entry = take_apart(table.heads[i], table.seconds[i]);
         let marks = marks_of(&proving[..i], &given[..i], k, entry);
         proving[i] = marks.proving;
         given[i] = marks.given;
-        i += 1;
     }
 }

@@ -7,7 +7,7 @@ use Rattle.logic.specs.Figure1 as Figure1
 use Rattle.logic.specs.Figure1.{Same, EqualInForce}
 use Rattle.steps.specs.Figure1.{same}
 use Rattle.independence.specs.Unmentioned.{UnmentionedAddsNothing, MentionedMatters}
-use Rattle.exchange.specs.declared.verdict.ExchangeVerdict.TheVariants.{Equal}
+use Rattle.exchange.specs.Verdict.{Equal}
 use Rattle.exchange.specs.Figure1.{exchange_answer}
 use Rattle.lessons.specs.NoSteps.{RowsAre, ModelsRefute, OneWorldWontDo, NoStepsAtAll}
 use Rattle.lessons.specs.NotEqual.{ListsAre, StandsThere, ModelsRefuteLists, NeverInForce}

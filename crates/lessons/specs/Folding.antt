@@ -13,7 +13,7 @@ use Rattle.logic.specs.Parts.{Part, joined_first, joined_second}
 use Rattle.logic.specs.Substitution.{put, Respects}
 use Rattle.record.specs.Proof.{stated_by, goal_of}
 use Rattle.exchange.specs.Samples.{K}
-use Rattle.exchange.specs.declared.verdict.ExchangeVerdict.TheVariants.{Equal}
+use Rattle.exchange.specs.Verdict.{Equal}
 use Rattle.exchange.specs.Layout.{first_list, second_list}
 use Rattle.exchange.specs.Answer.{exchange_answer}
 use Rattle.demands.specs.Release.{Release}

@@ -10,7 +10,7 @@ use Rattle.file.specs.Words.{file_of}
 use Rattle.logic.specs.Proposition.{Proposition, atom, false, ◌implies◌, ◌and◌, ◌or◌, ◌says◌}
 use Rattle.logic.specs.Figure1.{HasProof}
 use Rattle.logic.specs.Countermodels.{Supposition, suppose, refutes}
-use Rattle.record.specs.declared.verdict.RecordVerdict.TheVariants.{Granted}
+use Rattle.record.specs.Verdict.{Granted}
 use Rattle.record.specs.Proof.{stated_by, goal_of}
 use Rattle.record.specs.Figure1.{record_answer}
 use Rattle.demands.specs.Samples.{line_of, a_record}

@@ -10,7 +10,7 @@ use Rattle.file.specs.Words.{file_of}
 use Rattle.logic.specs.Proposition.{Proposition, atom, false, ◌implies◌, ◌and◌, ◌says◌}
 use Rattle.logic.specs.Figure1.{HasProof, EqualInForce}
 use Rattle.logic.specs.Countermodels.{Supposition, suppose, refutes}
-use Rattle.exchange.specs.declared.verdict.ExchangeVerdict.TheVariants.{Equal}
+use Rattle.exchange.specs.Verdict.{Equal}
 use Rattle.exchange.specs.Layout.{first_list, second_list}
 use Rattle.exchange.specs.Figure1.{exchange_answer}
 use Rattle.demands.specs.OldReleases.{spelled_in}

@@ -6,14 +6,15 @@ use mathlib.Core.Path.{refl}
 use mathlib.Core.List.Memᴰ
 use mathlib.Core.List.{List, [], ◌∷◌, ◌++◌}
 use lib.ListN.{length, take, length-append}
+use Rattle.std.specs.Prelude.{Err}
 use Rattle.basics.specs.Membership.{◌∈◌}
 use Rattle.basics.specs.Limits.{most_steps}
 use Rattle.text.specs.Ascii.{ascii}
 use Rattle.text.specs.Decimal.{decimal}
 use Rattle.text.proofs.Digits.{decimal_length}
-use Rattle.record.specs.declared.verdict.RecordVerdict.TheVariants.{Granted, Refused}
-use Rattle.exchange.specs.declared.verdict.ExchangeVerdict.TheVariants.{Equal, Refused as ExchangeRefused}
-use Rattle.independence.specs.declared.verdict.IndependenceVerdict.TheVariants as Independence
+use Rattle.record.specs.Verdict.{Granted, Refused}
+use Rattle.exchange.specs.Verdict.{Equal, Refused as ExchangeRefused}
+use Rattle.independence.specs.Verdict as Independence
 use Rattle.line.specs.RefusedLine.{refused_line}
 use Rattle.line.specs.RecordLine.{listed, record_line, LineFits}
 use Rattle.line.specs.ExchangeLine.{exchange_line, ExchangeLineFits}
@@ -62,19 +63,19 @@ line_fits (Granted count) ks s h =
       length-append text (listed (take count ks)),
       length-append (ascii "granted ") (decimal count),
     )
-line_fits (Refused number place) ks s h = omega (arith, refused_fits number place (omega (arith, s.1)) s.2)
+line_fits (Err r) ks s h = omega (arith, refused_fits r.number r.place (omega (arith, s.1)) s.2)
 
 -- `equal` and its line feed have 6 bytes.
 pub exchange_line_fits : ExchangeLineFits
 unfolding ascii exchange_line
 exchange_line_fits Equal s = omega arith
-exchange_line_fits (ExchangeRefused number place) s = omega
-    (arith, refused_fits number place (omega (arith, s.1)) s.2)
+exchange_line_fits (Err r) s = omega
+    (arith, refused_fits r.number r.place (omega (arith, s.1)) s.2)
 
 -- `not independent` and its line feed have 16.
 pub independence_line_fits : IndependenceLineFits
 unfolding ascii independence_line
 independence_line_fits Independence.Independent s = omega arith
 independence_line_fits Independence.NotIndependent s = omega arith
-independence_line_fits (Independence.Refused number place) s = omega
-    (arith, refused_fits number place (omega (arith, s.1)) s.2)
+independence_line_fits (Err r) s = omega
+    (arith, refused_fits r.number r.place (omega (arith, s.1)) s.2)

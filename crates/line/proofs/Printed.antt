@@ -9,6 +9,7 @@ use lib.ListN.{length, drop, take}
 use lib.Dec.{leb}
 use lib.Seq.{take_all, take-append_seam}
 use borrow.Author.Tests.{le-leb}
+use Rattle.std.specs.Prelude.{Err}
 use Rattle.basics.specs.Membership.{◌∈◌}
 use Rattle.basics.specs.Choice.{pick}
 use Rattle.basics.specs.Limits.{most_statements}
@@ -17,8 +18,7 @@ use Rattle.basics.proofs.Written.{written_fits}
 use Rattle.signers.proofs.Each.{signers_are}
 use Rattle.signers.proofs.Joined.{signers_are_principals}
 use Rattle.logic.proofs.Principals.{Decided, decided}
-use Rattle.record.specs.declared.verdict.RecordVerdict.{RecordVerdict}
-use Rattle.record.specs.declared.verdict.RecordVerdict.TheVariants.{Granted, Refused}
+use Rattle.record.specs.Verdict.{RecordVerdict, Granted, Refused}
 use Rattle.record.specs.Layout.{heads, seconds, statements, table, says_left_numbers, signers}
 use Rattle.record.specs.Answer.{record_answer}
 use Rattle.record.specs.ListAfter.{list_after}
@@ -53,7 +53,7 @@ module _ (speaks : ℕ → ℕ → Bool) (file : List ℕ) where
       ∙ take-append_seam (signers file) rest
       ∙ sym (take_all count (signers file) (omega arith)) in
       ap (λ (names : List ℕ). ascii "granted " ++ decimal count ++ listed names ++ ascii "\n") first
-  of_list room before (Refused number place) e = refl
+  of_list room before (Err r) e = refl
 
   -- A grant with a list of any length is one with 256 words, with the same count.
   with_most : (room count : ℕ) → record_answer speaks file room ≡ Granted count

@@ -1,9 +1,8 @@
 -- The line for the answer of the test whether a principal can matter (02, job 5): `independent`, `not independent`, or
 -- a refusal's line as 01 has it. Proved in proofs/LineFits.antt. Assumes nothing.
-use Rattle.std.specs.Prelude.{ℕ, ◌≤◌, List, length}
+use Rattle.std.specs.Prelude.{ℕ, ◌≤◌, List, length, Err}
 use Rattle.text.specs.Ascii.{ascii}
-use Rattle.independence.specs.declared.verdict.IndependenceVerdict.{IndependenceVerdict}
-use Rattle.independence.specs.declared.verdict.IndependenceVerdict.TheVariants.{Independent, NotIndependent, Refused}
+use Rattle.independence.specs.Verdict.{IndependenceVerdict, Independent, NotIndependent, Refused}
 use Rattle.independence.specs.Promises.{Small}
 use Rattle.line.specs.RefusedLine.{refused_line}
 use Rattle.line.specs.RecordLine.{most_line}
@@ -11,7 +10,7 @@ use Rattle.line.specs.RecordLine.{most_line}
 unfoldable pub independence_line : IndependenceVerdict → List ℕ
 independence_line Independent = ascii "independent\n"
 independence_line NotIndependent = ascii "not independent\n"
-independence_line (Refused number place) = refused_line number place
+independence_line (Err refusal) = refused_line refusal.number refusal.place
 
 -- Where a line of a record's answer fits, one of these does.
 abbrev pub IndependenceLineFits : Type 0

@@ -3,8 +3,7 @@
 -- proofs/Printed.antt. Assumes nothing.
 use Rattle.std.specs.Prelude.{ℕ, ◌≤◌, Bool, ◌≡◌, List, ◌++◌, length, drop}
 use Rattle.basics.specs.Limits.{most_statements}
-use Rattle.record.specs.declared.verdict.RecordVerdict.{RecordVerdict}
-use Rattle.record.specs.declared.verdict.RecordVerdict.TheVariants.{Granted}
+use Rattle.record.specs.Verdict.{RecordVerdict, Granted}
 use Rattle.record.specs.Layout.{signers}
 use Rattle.record.specs.Answer.{record_answer}
 use Rattle.record.specs.ListAfter.{list_after}

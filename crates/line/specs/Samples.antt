@@ -4,16 +4,13 @@ use Rattle.std.specs.Prelude.{ℕ, ◌≡◌, List, [], ◌∷◌, map}
 use Prim.Native.String.{String}
 use Rattle.text.specs.Ascii.{ascii}
 use Rattle.file.specs.Words.{file_of}
-use Rattle.record.specs.declared.verdict.RecordVerdict.{RecordVerdict}
-use Rattle.record.specs.declared.verdict.RecordVerdict.TheVariants.{Granted, Refused}
+use Rattle.record.specs.Verdict.{RecordVerdict, Granted, Refused}
 use Rattle.record.specs.Figure1.{record_answer}
 use Rattle.record.specs.Samples.{over_t}
-use Rattle.exchange.specs.declared.verdict.ExchangeVerdict.{ExchangeVerdict}
-use Rattle.exchange.specs.declared.verdict.ExchangeVerdict.TheVariants.{Equal, Refused as ExchangeRefused}
+use Rattle.exchange.specs.Verdict.{ExchangeVerdict, Equal, Refused as ExchangeRefused}
 use Rattle.exchange.specs.Figure1.{exchange_answer}
 use Rattle.exchange.specs.Samples.{K}
-use Rattle.independence.specs.declared.verdict.IndependenceVerdict.{IndependenceVerdict}
-use Rattle.independence.specs.declared.verdict.IndependenceVerdict.TheVariants.{Independent, NotIndependent, Refused as IndependenceRefused}
+use Rattle.independence.specs.Verdict.{IndependenceVerdict, Independent, NotIndependent, Refused as IndependenceRefused}
 use Rattle.independence.specs.Figure1.{independence_answer}
 use Rattle.line.specs.RecordLine.{record_line}
 use Rattle.line.specs.ExchangeLine.{exchange_line}

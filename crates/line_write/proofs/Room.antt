@@ -7,7 +7,7 @@ use mathlib.Core.List.{List, ◌++◌}
 use lib.Dec.{ltb, leb}
 use lib.ListN.{length, take, length-append}
 use borrow.Author.Tests.{lt-ltb, le-ltb, le-leb, lt-leb}
-use Rattle.record.specs.declared.verdict.RecordVerdict.TheVariants.{Granted}
+use Rattle.record.specs.Verdict.{Granted}
 use Rattle.text.specs.Ascii.{ascii}
 use Rattle.text.specs.Decimal.{decimal}
 use Rattle.text.proofs.Split.{split}

@@ -5,7 +5,7 @@ ghost use Rattle.basics.specs.Written.{written_at};
 ghost use Rattle.text.specs.Ascii.{ascii};
 ghost use Rattle.text.specs.Decimal.{decimal};
 ghost use Rattle.text.specs.Fill.{place_after};
-ghost use Rattle.record.specs.declared.verdict.RecordVerdict.TheVariants.{Granted};
+ghost use Rattle.record.specs.Verdict.{Granted};
 ghost use Rattle.line.specs.RecordLine.{listed, record_line};
 
 use text::decimal::fill_decimal;
@@ -26,10 +26,8 @@ fn fill_listed(line: &mut [u8], at: usize, signers: &[u16], count: usize) -> usi
     ensures value { result ≡ place_after line.old at (listed (take count signers.now)) }
 {
     let mut end = at;
-    let mut i = 0;
-    while i < count && i < signers.len() {
-        end = fill_signer(line, end, signers[i]);
-        i += 1;
+    for &signer in signers.iter().take(count) {
+        end = fill_signer(line, end, signer);
     }
     end
 }

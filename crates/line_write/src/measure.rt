@@ -3,34 +3,25 @@
 ghost use Rattle.std.specs.Prelude.{◌-◌, ◌≡◌, ◌++◌, length, take, leb};
 ghost use Rattle.text.specs.Ascii.{ascii};
 ghost use Rattle.text.specs.Decimal.{decimal};
-ghost use Rattle.record.specs.declared.verdict.RecordVerdict.TheVariants.{Granted};
+ghost use Rattle.record.specs.Verdict.{Granted};
 ghost use Rattle.line.specs.RecordLine.{listed, record_line};
 ghost use Rattle.line.specs.RefusedLine.{refused_line};
 
+use basics::refusal::Refusal;
 use text::decimal::decimal_length;
-
-// The room left where some is used, none where there isn't so much.
-fn less(room: usize, used: usize) -> usize
-    ensures { result ≡ room - used }
-{
-    if room < used {
-        return 0;
-    }
-    room - used
-}
 
 // The room left after a number in decimal.
 fn less_decimal(room: usize, n: usize) -> usize
     ensures { result ≡ room - length (decimal n) }
 {
-    less(room, decimal_length(n))
+    room.saturating_sub(decimal_length(n))
 }
 
 // The room left after a blank and a signer.
 fn less_signer(room: usize, signer: u16) -> usize
     ensures { result ≡ room - length (ascii " " ++ decimal signer) }
 {
-    less_decimal(less(room, 1), signer as usize)
+    less_decimal(room.saturating_sub(1), signer as usize)
 }
 
 // The room left after the first `count` signers, each after a blank.
@@ -38,10 +29,8 @@ fn less_listed(room: usize, signers: &[u16], count: usize) -> usize
     ensures { result ≡ room - length (listed (take count signers.now)) }
 {
     let mut left = room;
-    let mut i = 0;
-    while i < count && i < signers.len() {
-        left = less_signer(left, signers[i]);
-        i += 1;
+    for &signer in signers.iter().take(count) {
+        left = less_signer(left, signer);
     }
     left
 }
@@ -50,14 +39,14 @@ fn less_listed(room: usize, signers: &[u16], count: usize) -> usize
 pub(crate) fn is_granted_room(count: usize, signers: &[u16], room: usize) -> bool
     ensures { result ≡ leb (length (record_line (Granted count) signers.now)) room }
 {
-    let counted = less_decimal(less(room, 8), count);
+    let counted = less_decimal(room.saturating_sub(8), count);
     less_listed(counted, signers, count) > 0
 }
 
 // Whether a refusal's line has room, of whatever call: so too, and " place " has 7 bytes.
-pub(crate) fn is_refused_room(number: u8, place: usize, room: usize) -> bool
-    ensures { result ≡ leb (length (refused_line number place)) room }
+pub(crate) fn is_refused_room(refusal: Refusal, room: usize) -> bool
+    ensures { result ≡ leb (length (refused_line refusal.number refusal.place)) room }
 {
-    let numbered = less_decimal(less(room, 8), number as usize);
-    less_decimal(less(numbered, 7), place) > 0
+    let numbered = less_decimal(room.saturating_sub(8), refusal.number as usize);
+    less_decimal(numbered.saturating_sub(7), refusal.place) > 0
 }

@@ -1,4 +1,5 @@
 // How many premises a rule has: 01's table, a case for each row. The walk and the loop over a proof's goals go by it.
+// The code stays a number: the contract answers for each, 12 and more too.
 ghost use Rattle.std.specs.Prelude.{◌≡◌, get_or};
 ghost use Rattle.steps.specs.PremiseCounts.{premise_counts};
 

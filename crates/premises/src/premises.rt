@@ -9,7 +9,7 @@ use table::entry::{Formula, Principal};
 
 #[derive(Clone, Copy)]
 pub enum Premises {
-    // Refused with a number.
+    // Refused with a number, as in `Refusal`.
     Refused(u8),
     // None.
     Closed,
@@ -42,15 +42,13 @@ pub fn first_premise(premises: Premises, goal: Goal) -> Premise
     ensures { result ≡ first_of goal (opened goal premises) }
 {
     match premises {
-        Premises::Refused(_) => premise(goal, Added::Nothing),
-        Premises::Closed => premise(goal, Added::Nothing),
-        Premises::Truth(a) => premise(Goal::True(a), Added::Nothing),
+        Premises::Refused(_) | Premises::Closed => premise(goal, Added::Nothing),
+        Premises::Truth(a) | Premises::TruthThenWith(a, _) | Premises::BothTruths(a, _) => {
+            premise(Goal::True(a), Added::Nothing)
+        }
         Premises::TruthWith(b, a) => premise(Goal::True(b), Added::One(a)),
-        Premises::With(a) => premise(goal, Added::One(a)),
+        Premises::With(a) | Premises::WithEither(a, _) => premise(goal, Added::One(a)),
         Premises::WithBoth(a, b) => premise(goal, Added::Two(a, b)),
-        Premises::TruthThenWith(a, _) => premise(Goal::True(a), Added::Nothing),
-        Premises::BothTruths(a, _) => premise(Goal::True(a), Added::Nothing),
-        Premises::WithEither(a, _) => premise(goal, Added::One(a)),
         Premises::Affirmation(k, a) => premise(Goal::Affirms(k, a), Added::Nothing),
     }
 }
@@ -60,9 +58,8 @@ pub fn last_premise(premises: Premises, goal: Goal) -> Premise
     ensures { result ≡ last_of goal (opened goal premises) }
 {
     match premises {
-        Premises::TruthThenWith(_, b) => premise(goal, Added::One(b)),
+        Premises::TruthThenWith(_, b) | Premises::WithEither(_, b) => premise(goal, Added::One(b)),
         Premises::BothTruths(_, b) => premise(Goal::True(b), Added::Nothing),
-        Premises::WithEither(_, b) => premise(goal, Added::One(b)),
         _ => first_premise(premises, goal),
     }
 }

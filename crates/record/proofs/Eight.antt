@@ -7,6 +7,7 @@ use mathlib.Core.List.{List, [], ◌∷◌}
 use lib.ListN.{length}
 use lib.Dec.{ltb}
 use borrow.Author.Tests.{lt-ltb}
+use Rattle.std.specs.Prelude.{Err}
 use Rattle.basics.specs.Limits.{most_depth}
 use Rattle.basics.specs.Order.{FirstReason, checking_order}
 use Rattle.basics.specs.Refusals.{test, at0}
@@ -15,8 +16,7 @@ use Rattle.basics.proofs.Refusals.{passed_by_all, joined_passed, goes_on, applie
 use Rattle.file.proofs.Reasons.{layout_small}
 use Rattle.table.proofs.Reasons.{entry_small}
 use Rattle.logic.specs.Principals.{Relation, Decides}
-use Rattle.steps.specs.declared.verdict.WalkVerdict.{WalkVerdict}
-use Rattle.steps.specs.declared.verdict.WalkVerdict.TheVariants.{Closed, Refused}
+use Rattle.steps.specs.Verdict.{WalkVerdict, Closed, Refused}
 use Rattle.steps.specs.Obligation.{obligation}
 use Rattle.steps.specs.Run.{walked}
 use Rattle.steps.proofs.Closed.{closed_uses_all}
@@ -58,10 +58,10 @@ module _ (speaks : ℕ → ℕ → Bool) (R : Relation) (decides : Decides speak
         let all = closed_uses_all speaks most_depth (table file) (obligation (statements file) (goal file) ∷ [])
         (steps file) q e in
         (closes_on_proof speaks R decides file keeps).0 (e ∙ ap Closed all)
-    is_proof (Refused n q) e =
-        let (least, most, _) = step_number speaks file n q e in
-        let stands = (before_eight n).1 (omega arith, most, λ is. omega arith) in
-        absurd (r.none_before n q stands (stops ((walk_stops speaks file n q).0 e)))
+    is_proof (Err r') e =
+        let (least, most, _) = step_number speaks file r'.number r'.place e in
+        let stands = (before_eight r'.number).1 (omega arith, most, λ is. omega arith) in
+        absurd (r.none_before r'.number r'.place stands (stops ((walk_stops speaks file r'.number r'.place).0 e)))
 
 pub eight_exactly :
     (speaks : ℕ → ℕ → Bool) (R : Relation) → Decides speaks R → EightExactly speaks R

@@ -10,18 +10,18 @@ use mathlib.Core.List.{List, [], ◌∷◌, ◌++◌}
 use lib.ListN.{length}
 use lib.Dec.{ltb}
 use borrow.Author.Tests.{ltb-true, lt-ltb, le-ltb}
-use Rattle.basics.specs.declared.tested.Tested.{Tested}
-use Rattle.basics.specs.declared.tested.Tested.TheVariants as Outcome
+use Rattle.std.specs.Prelude.{Err}
+use Rattle.basics.specs.Tested.{Tested}
+use Rattle.basics.specs.Tested as Outcome
 use Rattle.basics.specs.Choice.{pick}
 use Rattle.basics.specs.Refusals.{Test, test, at0, first_refusal, unless_refused}
-use Rattle.basics.proofs.Refusals.{not_passed, passed_by_all, joined_refused, joined_passed}
-use Rattle.steps.specs.declared.verdict.WalkVerdict.{WalkVerdict}
-use Rattle.steps.specs.declared.verdict.WalkVerdict.TheVariants as Walk
+use Rattle.basics.proofs.Refusals.{same_refusal, not_passed, passed_by_all, joined_refused, joined_passed}
+use Rattle.steps.specs.Verdict.{WalkVerdict}
+use Rattle.steps.specs.Verdict as Walk
 use Rattle.steps.specs.Run.{walked}
 use Rattle.steps.specs.Figure1.{same}
 use Rattle.signers.proofs.Each.{principals_are, signs_spelled, signers_have_papers}
-use Rattle.record.specs.declared.verdict.RecordVerdict.{RecordVerdict}
-use Rattle.record.specs.declared.verdict.RecordVerdict.TheVariants.{Granted, Refused}
+use Rattle.record.specs.Verdict.{RecordVerdict, Granted, Refused}
 use Rattle.record.specs.Layout.{statements, table, says_left_numbers, signers}
 use Rattle.record.specs.Answer as Every
 use Rattle.record.specs.Answer.{tests_to7}
@@ -41,43 +41,43 @@ former_signers_spelled file keeps K =
 
 -- what 1 to 7 come to, the walk's verdict, whether the list is short, and the count: now,
 abbrev answered : Tested → WalkVerdict → Bool → ℕ → RecordVerdict
-answered (Outcome.Refused number p) v short count = Refused number p
-answered Outcome.Passed (Walk.Refused number p) short count = Refused number p
+answered (Err r) v short count = Err r
+answered Outcome.Passed (Err r) short count = Err r
 answered Outcome.Passed (Walk.Closed q) short count = pick short (Refused 8 0) (Granted count)
 
 -- and before
 abbrev formerly : Tested → WalkVerdict → Bool → ℕ → RecordVerdict
-formerly (Outcome.Refused number p) v short count = Refused number p
+formerly (Err r) v short count = Err r
 formerly Outcome.Passed v true count = Refused 8 0
-formerly Outcome.Passed (Walk.Refused number p) false count = Refused number p
+formerly Outcome.Passed (Err r) false count = Err r
 formerly Outcome.Passed (Walk.Closed q) false count = Granted count
 
 -- The tests after 7, in either order.
 walk_first : (v : WalkVerdict) (short : Bool) (count : ℕ)
-    → unless_refused Refused (first_refusal (walked v ∷ test 8 (at0 short) ∷ [])) (Granted count)
+    → unless_refused (first_refusal (walked v ∷ test 8 (at0 short) ∷ [])) (Granted count)
     ≡ answered Outcome.Passed v short count
 unfolding first_refusal
 walk_first (Walk.Closed q) true count = refl
 walk_first (Walk.Closed q) false count = refl
-walk_first (Walk.Refused number p) short count = refl
+walk_first (Err r) short count = refl
 
 list_first : (v : WalkVerdict) (short : Bool) (count : ℕ)
-    → unless_refused Refused (first_refusal (test 8 (at0 short) ∷ walked v ∷ [])) (Granted count)
+    → unless_refused (first_refusal (test 8 (at0 short) ∷ walked v ∷ [])) (Granted count)
     ≡ formerly Outcome.Passed v short count
 unfolding first_refusal
 list_first v true count = refl
 list_first (Walk.Closed q) false count = refl
-list_first (Walk.Refused number p) false count = refl
+list_first (Err r) false count = refl
 
 -- After tests that pass, others decide; after tests that refuse, none does.
 after_tests : (ts us : List Test) (t : Tested) → first_refusal ts ≡ t → (verdict : RecordVerdict)
     → (ends : Tested → RecordVerdict) → ((number p : ℕ) → ends (Outcome.Refused number p) ≡ Refused number p)
-    → unless_refused Refused (first_refusal us) verdict ≡ ends Outcome.Passed
-    → unless_refused Refused (first_refusal (ts ++ us)) verdict ≡ ends t
+    → unless_refused (first_refusal us) verdict ≡ ends Outcome.Passed
+    → unless_refused (first_refusal (ts ++ us)) verdict ≡ ends t
 after_tests ts us Outcome.Passed e verdict ends refuses passes =
-    ap (λ (t : Tested). unless_refused Refused t verdict) (joined_passed ts us e) ∙ passes
-after_tests ts us (Outcome.Refused number p) e verdict ends refuses passes =
-    ap (λ (t : Tested). unless_refused Refused t verdict) (joined_refused ts us e) ∙ sym (refuses number p)
+    ap (λ (t : Tested). unless_refused t verdict) (joined_passed ts us e) ∙ passes
+after_tests ts us (Err r) e verdict ends refuses passes =
+    ap (λ (t : Tested). unless_refused t verdict) (joined_refused ts us e) ∙ sym (refuses r.number r.place)
 
 module _ (file : List ℕ) (room : ℕ) where
   -- what 1 to 7 come to; whether the list is too short for the signers, and for those of all papers
@@ -112,9 +112,9 @@ granted_stays : (t : Tested) (v : WalkVerdict) (short former : Bool) (count most
     → count ≤ most
     → (before : ℕ) → formerly t v former most ≡ Granted before
     → (now : ℕ) × (answered t v short count ≡ Granted now) × (now ≤ before)
-granted_stays (Outcome.Refused number p) v short former count most shorter fewer before e = absurd (not_granted e)
+granted_stays (Err r) v short former count most shorter fewer before e = absurd (not_granted e)
 granted_stays Outcome.Passed v short true count most shorter fewer before e = absurd (not_granted e)
-granted_stays Outcome.Passed (Walk.Refused number p) short false count most shorter fewer before e =
+granted_stays Outcome.Passed (Err r) short false count most shorter fewer before e =
     absurd (not_granted e)
 granted_stays Outcome.Passed (Walk.Closed q) true false count most shorter fewer before e =
     absurd (true≢false (sym (shorter refl)))
@@ -124,26 +124,27 @@ granted_stays Outcome.Passed (Walk.Closed q) false false count most shorter fewe
 was_refused : (t : Tested) (v : WalkVerdict) (short former : Bool) (count most : ℕ) → (short ≡ true → former ≡ true)
     → (number p : ℕ) → answered t v short count ≡ Refused number p
     → (before : ℕ) × (q : ℕ) × (formerly t v former most ≡ Refused before q)
-was_refused (Outcome.Refused m q) v short former count most shorter number p e = (m, q, refl)
+was_refused (Err r) v short former count most shorter number p e = (r.number, r.place, refl)
 was_refused Outcome.Passed v short true count most shorter number p e = (8, 0, refl)
-was_refused Outcome.Passed (Walk.Refused m q) short false count most shorter number p e = (m, q, refl)
+was_refused Outcome.Passed (Err r) short false count most shorter number p e = (r.number, r.place, refl)
 was_refused Outcome.Passed (Walk.Closed q) true false count most shorter number p e =
     absurd (true≢false (sym (shorter refl)))
 was_refused Outcome.Passed (Walk.Closed q) false false count most shorter number p e = absurd (not_granted (sym e))
 
 was_short : (t : Tested) (v : WalkVerdict) (short former : Bool) (count most : ℕ) → (now number p : ℕ)
     → answered t v short count ≡ Granted now → formerly t v former most ≡ Refused number p → (number ≡ 8) × (p ≡ 0)
-was_short (Outcome.Refused m q) v short former count most now number p e f = absurd (not_granted e)
-was_short Outcome.Passed (Walk.Refused m q) short former count most now number p e f = absurd (not_granted e)
+was_short (Err r) v short former count most now number p e f = absurd (not_granted e)
+was_short Outcome.Passed (Err r) short former count most now number p e f = absurd (not_granted e)
 was_short Outcome.Passed (Walk.Closed q) true former count most now number p e f = absurd (not_granted e)
-was_short Outcome.Passed (Walk.Closed q) false true count most now number p e f = (cc, cc)
+was_short Outcome.Passed (Walk.Closed q) false true count most now number p e f =
+    let (eight, at_0) = same_refusal f in (sym eight, sym at_0)
 was_short Outcome.Passed (Walk.Closed q) false false count most now number p e f = absurd (not_granted (sym f))
 
 -- Where it was long enough, refusals are the same.
 same_refused : (t : Tested) (v : WalkVerdict) (count most : ℕ) (number p : ℕ)
     → answered t v false count ≡ Refused number p ↔ formerly t v false most ≡ Refused number p
-same_refused (Outcome.Refused m q) v count most number p = (λ e. e, λ e. e)
-same_refused Outcome.Passed (Walk.Refused m q) count most number p = (λ e. e, λ e. e)
+same_refused (Err r) v count most number p = (λ e. e, λ e. e)
+same_refused Outcome.Passed (Err r) count most number p = (λ e. e, λ e. e)
 same_refused Outcome.Passed (Walk.Closed q) count most number p =
     (λ e. absurd (not_granted (sym e)), λ e. absurd (not_granted (sym e)))
 
@@ -151,7 +152,7 @@ same_refused Outcome.Passed (Walk.Closed q) count most number p =
 same_low : (t : Tested) (v : WalkVerdict) (short former : Bool) (count most number p : ℕ)
     → ((n q : ℕ) → v ≡ Walk.Refused n q → 9 ≤ n) → number ≤ 7
     → answered t v short count ≡ Refused number p ↔ formerly t v former most ≡ Refused number p
-same_low (Outcome.Refused m q) v short former count most number p steps few = (λ e. e, λ e. e)
+same_low (Err r) v short former count most number p steps few = (λ e. e, λ e. e)
 same_low Outcome.Passed v short former count most number p steps few = (
   λ e. absurd (not_now v short steps e),
   λ e. absurd (not_before v former steps e),
@@ -159,14 +160,14 @@ same_low Outcome.Passed v short former count most number p steps few = (
   where
     not_now : (v : WalkVerdict) (short : Bool) → ((n q : ℕ) → v ≡ Walk.Refused n q → 9 ≤ n)
         → ¬ (answered Outcome.Passed v short count ≡ Refused number p)
-    not_now (Walk.Refused n q) short steps e = let l = steps n q refl in let same : n ≡ number = cc in omega arith
-    not_now (Walk.Closed q) true steps e = let same : ◌≡◌ {A = ℕ} 8 number = cc in omega arith
+    not_now (Err r) short steps e = let l = steps r.number r.place refl in let (same, _) = same_refusal e in omega arith
+    not_now (Walk.Closed q) true steps e = let (same, _) = same_refusal e in omega arith
     not_now (Walk.Closed q) false steps e = not_granted (sym e)
 
     not_before : (v : WalkVerdict) (former : Bool) → ((n q : ℕ) → v ≡ Walk.Refused n q → 9 ≤ n)
         → ¬ (formerly Outcome.Passed v former most ≡ Refused number p)
-    not_before v true steps e = let same : ◌≡◌ {A = ℕ} 8 number = cc in omega arith
-    not_before (Walk.Refused n q) false steps e = let l = steps n q refl in let same : n ≡ number = cc in omega arith
+    not_before v true steps e = let (same, _) = same_refusal e in omega arith
+    not_before (Err r) false steps e = let l = steps r.number r.place refl in let (same, _) = same_refusal e in omega arith
     not_before (Walk.Closed q) false steps e = not_granted (sym e)
 
 module _ (file : List ℕ) (room : ℕ) where
@@ -177,16 +178,16 @@ module _ (file : List ℕ) (room : ℕ) where
   of_eight : (t : Tested) (v : WalkVerdict) (former : Bool) (p : ℕ) → to_7 file room ≡ t → step_verdict file ≡ v
       → formerly t v former (length (former_signers file)) ≡ Refused 8 p
       → (p ≡ 0) × (t ≡ Outcome.Passed) × (former ≡ true)
-  of_eight (Outcome.Refused number q) v former p e w is =
+  of_eight (Err r) v former p e w is =
       let now : record_answer file room ≡ Refused 8 p =
       answer_is file room
       ∙ ap (λ (t : Tested). answered t (step_verdict file) (short file room) (length (signers file))) e
       ∙ is in
       let (_, keeps, _, _) = (eight_exactly file room p).0 now in
       absurd (not_passed (sym e ∙ (passed_by_all (tests_to7 file)).1 ((none_to_7 file).1 keeps)))
-  of_eight Outcome.Passed v true p e w is = (cc, refl, refl)
-  of_eight Outcome.Passed (Walk.Refused n q) false p e w is =
-      let l = steps_from_9 n q w in let same : n ≡ 8 = cc in absurd (omega arith)
+  of_eight Outcome.Passed v true p e w is = (sym (same_refusal is).1, refl, refl)
+  of_eight Outcome.Passed (Err r) false p e w is =
+      let l = steps_from_9 r.number r.place w in let (same, _) = same_refusal is in absurd (omega arith)
   of_eight Outcome.Passed (Walk.Closed q) false p e w is = absurd (not_granted (sym is))
 
 -- and a file that keeps the layout passes 1 to 7.

@@ -8,7 +8,7 @@ use lib.ListN.{length}
 use Rattle.basics.specs.Limits.{most_depth}
 use Rattle.basics.proofs.Refusals.{passed_by_all}
 use Rattle.logic.specs.Principals.{Relation, Decides}
-use Rattle.steps.specs.declared.verdict.WalkVerdict.TheVariants.{Closed}
+use Rattle.steps.specs.Verdict.{Closed}
 use Rattle.steps.specs.Obligation.{obligation}
 use Rattle.steps.proofs.Closed.{closed_uses_all}
 use Rattle.record.specs.Layout.{goal, statements, steps, table}

@@ -15,7 +15,7 @@ use Rattle.file.proofs.LayoutLaws.{none_to_3}
 use Rattle.file.proofs.Outside.{none_outside}
 use Rattle.table.proofs.Ordered.{no_fault_ordered}
 use Rattle.table.proofs.Unlike.{not_repeated}
-use Rattle.steps.specs.declared.verdict.WalkVerdict.TheVariants.{Closed}
+use Rattle.steps.specs.Verdict.{Closed}
 use Rattle.steps.proofs.Walked.{walked_nowhere}
 use Rattle.record.specs.Layout.{record_layout, formulas, goal, heads, seconds, statements, table, signers}
 use Rattle.record.specs.Answer.{step_verdict, tests_to7, tests}

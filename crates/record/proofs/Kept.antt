@@ -14,8 +14,7 @@ use Rattle.table.specs.Tests.{entry_tests}
 use Rattle.table.proofs.Reasons.{entry_reasons, entry_small}
 use Rattle.record.specs.Layout.{record_layout, heads, seconds}
 use Rattle.record.specs.Answer.{goal_outside, statement_outside, tests_to7}
-use Rattle.record.specs.Reasons.{Reason, layout_broken, table_broken, goal_outside as goal_outside_reason, statement_outside as statement_outside_reason}
-use Rattle.record.specs.Reasons.{list_short, stops}
+use Rattle.record.specs.Reasons.{Reason, layout_broken, table_broken, goal_outside as goal_outside_reason, statement_outside as statement_outside_reason, list_short, stops}
 use Rattle.record.specs.Promises.{KeepsExactly}
 use Rattle.record.proofs.LayoutIs.{ranges_are}
 use Rattle.record.proofs.Keeps.{none_to_7}

@@ -7,7 +7,7 @@ use mathlib.Core.Logic.Iff
 use mathlib.Core.Logic.{◌↔◌, ◌⊎◌, inl, inr, ⊎_elim}
 use mathlib.Core.List.{List, [], ◌∷◌}
 use lib.ListN.{length, get_or}
-use Rattle.basics.specs.declared.place.Place.TheVariants.{At}
+use Rattle.basics.specs.Place.{At}
 use Rattle.basics.specs.First.{IsFirst}
 use Rattle.basics.specs.Limits.{most_depth}
 use Rattle.basics.specs.Refusals.{Test, test}
@@ -19,7 +19,7 @@ use Rattle.file.proofs.Reasons.{layout_reasons}
 use Rattle.file.proofs.Outside.{first_outside}
 use Rattle.table.specs.Tests.{entry_tests}
 use Rattle.table.proofs.Reasons.{entry_reasons}
-use Rattle.steps.specs.declared.verdict.WalkVerdict.TheVariants as Walk
+use Rattle.steps.specs.Verdict as Walk
 use Rattle.steps.specs.Obligation.{obligation}
 use Rattle.steps.specs.Run.{walked}
 use Rattle.steps.specs.Stops.{Stop}

@@ -5,6 +5,7 @@ use mathlib.Core.Bool.{Bool}
 use mathlib.Core.Path.{◌≡◌, refl}
 use mathlib.Core.Logic.Iff
 use mathlib.Core.List.{List}
+use Rattle.std.specs.Prelude.{Err}
 use Rattle.basics.specs.Order.{FirstReason, checking_order}
 use Rattle.basics.proofs.Asked.{settled}
 use Rattle.basics.proofs.Order.{lower_before}
@@ -16,8 +17,7 @@ use Rattle.logic.specs.Principals.{Relation}
 use Rattle.logic.proofs.Principals.{Decided, decided}
 use Rattle.table.proofs.Reasons.{entry_small}
 use Rattle.signers.proofs.Joined.{no_more_than_statements}
-use Rattle.record.specs.declared.verdict.RecordVerdict.{RecordVerdict}
-use Rattle.record.specs.declared.verdict.RecordVerdict.TheVariants.{Granted, Refused}
+use Rattle.record.specs.Verdict.{RecordVerdict, Granted, Refused}
 use Rattle.record.specs.Layout.{record_layout, heads, seconds, statements, table, says_left_numbers}
 use Rattle.record.specs.Answer.{record_answer}
 use Rattle.record.specs.Proof.{InRange}
@@ -65,9 +65,9 @@ module _ (speaks : ℕ → ℕ → Bool) (file : List ℕ) (room : ℕ) where
   small : (v : RecordVerdict) → record_answer speaks file room ≡ v → Small v
   small (Granted count) e =
       grant_small (Decided speaks) count ((granted_exactly speaks (Decided speaks) (decided speaks) file room count).0 e)
-  small (Refused number p) e =
-      let r = (refused_exactly speaks file room number p).0 e in
-      reason_small number p (ranges number p r) r.applies
+  small (Err r') e =
+      let r = (refused_exactly speaks file room r'.number r'.place).0 e in
+      reason_small r'.number r'.place (ranges r'.number r'.place r) r.applies
 
 pub answers_small : (speaks : ℕ → ℕ → Bool) → AnswersSmall speaks
 answers_small speaks file room = small speaks file room (record_answer speaks file room) refl

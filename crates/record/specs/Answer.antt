@@ -2,17 +2,16 @@
 -- "Refused, in checking order" (01), test by test. `speaks` compares principals, for code 11: 01 has "the same K"
 -- (Figure1.antt). Assumes nothing.
 use Rattle.std.specs.Prelude.{ℕ, Bool, List, [], ◌∷◌, ◌++◌, length, ltb, leb}
-use Rattle.basics.specs.declared.place.Place.{Place}
+use Rattle.basics.specs.Place.{Place}
 use Rattle.basics.specs.Limits.{most_depth}
 use Rattle.basics.specs.Refusals.{Test, test, at0, first_refusal, unless_refused}
 use Rattle.file.specs.Layout.{layout_tests}
 use Rattle.file.specs.Outside.{outside}
 use Rattle.table.specs.Tests.{entry_tests}
-use Rattle.steps.specs.declared.verdict.WalkVerdict.{WalkVerdict}
+use Rattle.steps.specs.Verdict.{WalkVerdict}
 use Rattle.steps.specs.Obligation.{obligation}
 use Rattle.steps.specs.Run.{run, walked}
-use Rattle.record.specs.declared.verdict.RecordVerdict.{RecordVerdict}
-use Rattle.record.specs.declared.verdict.RecordVerdict.TheVariants.{Granted, Refused}
+use Rattle.record.specs.Verdict.{RecordVerdict, Granted, Refused}
 use Rattle.record.specs.Layout.{record_layout, formulas, goal, heads, seconds, statements, steps, table, signers}
 
 -- "6. The goal's number is F or more (place 0)."
@@ -46,4 +45,4 @@ module _ (speaks : ℕ → ℕ → Bool) where
 
   -- "Granted gives their count", the signers'.
   unfoldable pub record_answer : List ℕ → ℕ → RecordVerdict
-  record_answer file room = unless_refused Refused (first_refusal (tests file room)) (Granted (length (signers file)))
+  record_answer file room = unless_refused (first_refusal (tests file room)) (Granted (length (signers file)))

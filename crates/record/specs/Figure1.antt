@@ -4,9 +4,9 @@
 use Rattle.std.specs.Prelude.{ℕ, List}
 use Rattle.basics.specs.Refusals.{Test}
 use Rattle.logic.specs.Figure1.{Same}
-use Rattle.steps.specs.declared.verdict.WalkVerdict.{WalkVerdict}
+use Rattle.steps.specs.Verdict.{WalkVerdict}
 use Rattle.steps.specs.Figure1.{same}
-use Rattle.record.specs.declared.verdict.RecordVerdict.{RecordVerdict}
+use Rattle.record.specs.Verdict.{RecordVerdict}
 use Rattle.record.specs.Answer as Every
 use Rattle.record.specs.Proof as AnyProof
 use Rattle.record.specs.Carries as AnyCarries

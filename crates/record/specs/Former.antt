@@ -8,8 +8,7 @@ use Rattle.file.specs.Words.{file_of}
 use Rattle.steps.specs.Run.{walked}
 use Rattle.signers.specs.Signers.{principals}
 use Rattle.signers.specs.Each.{SaysSome}
-use Rattle.record.specs.declared.verdict.RecordVerdict.{RecordVerdict}
-use Rattle.record.specs.declared.verdict.RecordVerdict.TheVariants.{Granted, Refused}
+use Rattle.record.specs.Verdict.{RecordVerdict, Granted, Refused}
 use Rattle.record.specs.Layout.{statements, table, signers}
 use Rattle.record.specs.Answer.{tests_to7}
 use Rattle.record.specs.Proof.{Keeps}
@@ -33,7 +32,7 @@ former_tests file room =
 
 unfoldable pub former_answer : List ℕ → ℕ → RecordVerdict
 former_answer file room =
-    unless_refused Refused (first_refusal (former_tests file room)) (Granted (length (former_signers file)))
+    unless_refused (first_refusal (former_tests file room)) (Granted (length (former_signers file)))
 
 -- So exactly a file that keeps the layout was refused by 8 for a short list, whatever its steps are.
 abbrev pub FormerEight : Type 0

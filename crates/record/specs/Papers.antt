@@ -14,7 +14,7 @@ use Rattle.table.specs.Entry.{principal}
 use Rattle.table.specs.Tests.{entry_at}
 use Rattle.table.specs.Number.{number}
 use Rattle.steps.specs.Words as Derived
-use Rattle.record.specs.declared.verdict.RecordVerdict.TheVariants.{Granted}
+use Rattle.record.specs.Verdict.{Granted}
 use Rattle.record.specs.Layout.{statements, steps, table}
 use Rattle.record.specs.Answer.{record_answer}
 use Rattle.record.specs.Proof.{Keeps, stated_by, goal_of}

@@ -1,13 +1,12 @@
 -- What is promised of the answers: demands 1 and 2 for records, for every test on principals and, where a proof is
 -- spoken of, the relation that it decides. Each is proved in proofs/ under its name in small letters, and fixed to
 -- Figure 1 in Figure1.antt. Assumes nothing.
-use Rattle.std.specs.Prelude.{ℕ, suc, ◌≤◌, ◌<◌, Bool, ◌≡◌, ◌↔◌, List, length, take}
+use Rattle.std.specs.Prelude.{ℕ, suc, ◌≤◌, ◌<◌, Bool, ◌≡◌, ◌↔◌, List, length, take, Err}
 use Rattle.basics.specs.Membership.{◌∈◌}
 use Rattle.basics.specs.Limits.{most_statements, most_steps}
 use Rattle.basics.specs.Order.{FirstReason, checking_order}
 use Rattle.logic.specs.Principals.{Relation}
-use Rattle.record.specs.declared.verdict.RecordVerdict.{RecordVerdict}
-use Rattle.record.specs.declared.verdict.RecordVerdict.TheVariants.{Granted, Refused}
+use Rattle.record.specs.Verdict.{RecordVerdict, Granted, Refused}
 use Rattle.record.specs.Layout.{formulas, goal, heads, seconds, statements, steps, most_bytes, signers}
 use Rattle.record.specs.Answer.{record_answer}
 use Rattle.record.specs.Proof.{Sized, Keeps, IsProof}
@@ -38,7 +37,7 @@ module _ (speaks : ℕ → ℕ → Bool) (R : Relation) where
 -- How large an answer can be.
 abbrev pub Small : RecordVerdict → Type 0
 Small (Granted count) = count ≤ most_statements
-Small (Refused number p) = (1 ≤ number) × (number ≤ 15) × (p ≤ most_steps)
+Small (Err refusal) = (1 ≤ refusal.number) × (refusal.number ≤ 15) × (refusal.place ≤ most_steps)
 
 -- Two records of one table, goal and steps.
 pub record SameButStatements (file other : List ℕ) : Type 0 where

@@ -1,9 +1,8 @@
 -- The samples of document 01 that are marked m, A to H, as whole files: one table, proved in proofs/Samples.antt by
 -- computation. Each lends a list of 256 words, as the program does. Assumes nothing.
-use Rattle.std.specs.Prelude.{ℕ, ◌≡◌, List, [], ◌∷◌, ◌++◌, map, length}
+use Rattle.std.specs.Prelude.{ℕ, ◌≡◌, List, [], ◌∷◌, ◌++◌, map, length, Err}
 use Rattle.file.specs.Words.{file_of}
-use Rattle.record.specs.declared.verdict.RecordVerdict.{RecordVerdict}
-use Rattle.record.specs.declared.verdict.RecordVerdict.TheVariants.{Granted, Refused}
+use Rattle.record.specs.Verdict.{RecordVerdict, Granted, Refused}
 use Rattle.record.specs.Layout.{signers}
 use Rattle.record.specs.ListAfter.{list_after}
 use Rattle.record.specs.Figure1.{record_answer}
@@ -24,7 +23,7 @@ refuses words room number place = record { words = words; room = room; answer = 
 -- the signers where there is a grant
 abbrev pub granted : RecordVerdict → List ℕ → List ℕ
 granted (Granted count) names = names
-granted (Refused number place) names = []
+granted (Err refusal) names = []
 
 -- "Table T: 0 atom 0; 1 principal 7 says it; 2 principal 8 says it: heads 0, 20487, 20488, seconds 0, 0, 0."
 abbrev pub over_t : List ℕ → ℕ → List ℕ → List ℕ

@@ -1,4 +1,2 @@
-// The answer for a record: granted, with the number of its signers, or refused. `record_check` has the check.
+// The record: definitions and theorems, no code. `record_check` has that.
 #![tactic(auto)]
-
-pub mod verdict;

@@ -3,12 +3,11 @@
 use Prim.Native.Nat.{ℕ}
 use mathlib.Core.Path.{◌≡◌, sym, ap, ◌∙◌}
 use mathlib.Core.List.{List, [], ◌∷◌}
-use Rattle.basics.specs.declared.tested.Tested.{Tested}
-use Rattle.basics.specs.declared.tested.Tested.TheVariants as Outcome
+use Rattle.basics.specs.Tested.{Tested}
+use Rattle.basics.specs.Tested as Outcome
 use Rattle.basics.specs.Refusals.{Test, first_refusal, unless_refused}
 use Rattle.basics.proofs.Refusals.{joined_refused, joined_passed}
-use Rattle.record.specs.declared.verdict.RecordVerdict.{RecordVerdict}
-use Rattle.record.specs.declared.verdict.RecordVerdict.TheVariants.{Refused}
+use Rattle.record.specs.Verdict.{RecordVerdict, Refused}
 use Rattle.record_check.specs.Parts.{part_tests, room_test, step_test, content_tests, granted, arrays_answer}
 
 module _ (heads seconds statements : List ℕ) (goal : ℕ) (steps : List ℕ) (room : ℕ) where
@@ -40,16 +39,3 @@ module _ (heads seconds statements : List ℕ) (goal : ℕ) (steps : List ℕ) (
 
       pub by_room : {v : Tested} → u ≡ Outcome.Passed → v ≡ first_refusal only_8 → v ≡ all
       by_room passed_15 listed = listed ∙ sym (joined_passed only_walk only_8 (sym walk ∙ passed_15)) ∙ after_7
-
-  -- what they come to, as an answer
-  abbrev answer : Tested → RecordVerdict
-  answer t = unless_refused Refused t (granted heads seconds statements steps)
-
-  module _ {t : Tested} (judged : t ≡ all) where
-    pub refused_by_one : {number p : ℕ} → t ≡ Outcome.Refused number p → Refused number p
-        ≡ arrays_answer heads seconds statements goal steps room
-    refused_by_one e = ap answer (sym e ∙ judged)
-
-    pub granted_by_all : {w : RecordVerdict} → t ≡ Outcome.Passed → w ≡ granted heads seconds statements steps
-        → w ≡ arrays_answer heads seconds statements goal steps room
-    granted_by_all e is = is ∙ ap answer (sym e ∙ judged)

@@ -7,10 +7,8 @@ use mathlib.Core.List.{List, [], ◌∷◌, ◌++◌}
 use lib.ListN.{length}
 use lib.Dec.{leb}
 use borrow.Author.Tests.{le-leb, lt-leb}
-use Rattle.basics.specs.declared.place.Place.{Place}
-use Rattle.basics.specs.declared.place.Place.TheVariants.{At, Nowhere}
-use Rattle.basics.specs.declared.tested.Tested.{Tested}
-use Rattle.basics.specs.declared.tested.Tested.TheVariants.{Passed, Refused}
+use Rattle.basics.specs.Place.{Place, At, Nowhere}
+use Rattle.basics.specs.Tested.{Tested, Passed, Refused}
 use Rattle.basics.specs.Choice.{both}
 use Rattle.basics.specs.Limits.{most_formulas, most_statements}
 use Rattle.basics.specs.Refusals.{Test, test, at0, first_refusal}

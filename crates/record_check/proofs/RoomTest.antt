@@ -5,8 +5,7 @@ use mathlib.Core.Path.{◌≡◌, sym, ◌∙◌}
 use mathlib.Core.List.{List, [], ◌∷◌}
 use lib.ListN.{length}
 use borrow.Author.Tests.{lt-ltb, le-ltb}
-use Rattle.basics.specs.declared.tested.Tested.{Tested}
-use Rattle.basics.specs.declared.tested.Tested.TheVariants.{Passed, Refused}
+use Rattle.basics.specs.Tested.{Tested, Passed, Refused}
 use Rattle.basics.specs.Refusals.{first_refusal}
 use Rattle.basics.proofs.Refusals.{applies_at_0, goes_on_at_0, none_left}
 use Rattle.table.specs.Tests.{entries}

@@ -1,26 +1,26 @@
 -- The parts of the check are `record_answer`, and what it leaves in the list is `list_after`. Assumes nothing.
-use Prim.Native.Nat.{ℕ}
+use Prim.Native.Nat.{ℕ, ◌≤◌}
 use native.Mathlib.Omega.{arith}
 use mathlib.Core.Bool.{true, not}
 use mathlib.Core.Path.{◌≡◌, sym, ap, ◌∙◌}
 use mathlib.Core.List.{List, ◌++◌}
 use lib.ListN.{length, drop}
-use Rattle.basics.specs.declared.tested.Tested.{Tested}
-use Rattle.basics.specs.declared.tested.Tested.TheVariants as Outcome
+use Rattle.std.specs.Prelude.{Err}
+use Rattle.basics.specs.Tested.{Tested}
+use Rattle.basics.specs.Tested as Outcome
 use Rattle.basics.specs.Refusals.{Test, first_refusal, unless_refused}
 use Rattle.basics.proofs.Refusals.{goes_on_at_0, joined_refused, joined_passed}
 use Rattle.basics.proofs.Written.{written_fits}
 use Rattle.file.specs.Layout.{layout_tests}
-use Rattle.file.proofs.LayoutLaws.{passed_to_three, parts_whole}
+use Rattle.file.proofs.LayoutLaws.{passed_to_three, parts_whole, sized_most}
 use Rattle.steps.specs.Figure1.{same}
-use Rattle.record.specs.declared.verdict.RecordVerdict.{RecordVerdict}
-use Rattle.record.specs.declared.verdict.RecordVerdict.TheVariants.{Granted, Refused}
-use Rattle.record.specs.Layout.{record_layout, goal, heads, seconds, statements, steps, signers}
+use Rattle.record.specs.Verdict.{RecordVerdict, Granted, Refused}
+use Rattle.record.specs.Layout.{record_layout, most_bytes, goal, heads, seconds, statements, steps, signers}
 use Rattle.record.specs.Answer as Every
 use Rattle.record.specs.Figure1.{tests, record_answer}
 use Rattle.record.specs.ListAfter.{list_after}
 use Rattle.record.specs.Proof.{Sized}
-use Rattle.record.proofs.LayoutIs.{sized}
+use Rattle.record.proofs.LayoutIs.{sized, bounded}
 use Rattle.record.proofs.Lengths.{length_heads, length_seconds}
 use Rattle.record.proofs.Figure1.{granted_exactly}
 use Rattle.record.proofs.Answered.{answer_refused}
@@ -43,6 +43,10 @@ module _ (file : List ℕ) where
   -- A file that they let pass has the sizes and the length that the layout asks for.
   pub layout_passed : {t : Tested} → t ≡ first_refusal (layout_tests record_layout file) → t ≡ Outcome.Passed → Sized file
   layout_passed answered e = (sized file).0 ((passed_to_three record_layout file).0 (sym answered ∙ e))
+
+  -- and is no longer than the longest.
+  pub within_most : Sized file → length file ≤ most_bytes
+  within_most s = sized_most record_layout bounded file ((sized file).1 s)
 
   -- ---- 2 and 4 to 15
 
@@ -73,7 +77,7 @@ module _ (file : List ℕ) where
 
     answers : (room : ℕ) → arrays_answer (heads file) (seconds file) (statements file) (goal file) (steps file) room ≡ record_answer file room
     unfolding Every.record_answer
-    answers room = ap (λ (t : Tested). unless_refused Refused t (Granted (length (signers file)))) (tests_from_4 room)
+    answers room = ap (λ (t : Tested). unless_refused t (Granted (length (signers file)))) (tests_from_4 room)
 
     -- what is in the list at the end
     leaves : (before after : List ℕ) (v : RecordVerdict) → v ≡ record_answer file (length before)
@@ -83,7 +87,7 @@ module _ (file : List ℕ) where
         let grant = (granted_exactly file (length before) count).0 (sym e) in
         w ∙ written_fits before (signers file) grant.fits
         ∙ ap (λ (n : ℕ). signers file ++ drop n before) (sym grant.counted)
-    leaves before after (Refused number place) e w = w
+    leaves before after (Err r) e w = w
 
     -- so what the code answers over the parts that it took, and leaves in the list
     pub whole :

@@ -1,6 +1,6 @@
 -- What the parts of the check answer, over arrays of any length: 2 and 4 to 7, 9 to 15, 8, and all of them in order.
 -- Assumes nothing.
-use Rattle.std.specs.Prelude.{ℕ, ◌≤◌, Bool, true, not, ◌≡◌, ◌↔◌, List, [], ◌∷◌, ◌++◌, length, ltb, leb}
+use Rattle.std.specs.Prelude.{ℕ, ◌≤◌, Bool, true, not, ◌≡◌, ◌↔◌, List, [], ◌∷◌, ◌++◌, length, ltb, leb, Err}
 use Rattle.basics.specs.Choice.{both}
 use Rattle.basics.specs.Limits.{most_formulas, most_statements}
 use Rattle.basics.specs.Refusals.{Test, test, at0, first_refusal, unless_refused}
@@ -11,8 +11,7 @@ use Rattle.steps.specs.Obligation.{obligation}
 use Rattle.steps.specs.Run.{walked}
 use Rattle.steps.specs.Figure1.{run}
 use Rattle.signers_write.specs.Arrays.{arrays_signers}
-use Rattle.record.specs.declared.verdict.RecordVerdict.{RecordVerdict}
-use Rattle.record.specs.declared.verdict.RecordVerdict.TheVariants.{Granted, Refused}
+use Rattle.record.specs.Verdict.{RecordVerdict, Granted, Refused}
 use Rattle.record.specs.Layout.{goal, heads, seconds, statements, steps}
 use Rattle.record.specs.Figure1.{record_answer}
 use Rattle.record.specs.Proof.{Sized}
@@ -68,7 +67,7 @@ granted heads seconds statements steps = Granted (length (arrays_signers heads s
 -- 2 and 4 to 15, and 8
 abbrev pub arrays_answer : List ℕ → List ℕ → List ℕ → ℕ → List ℕ → ℕ → RecordVerdict
 arrays_answer heads seconds statements goal steps room =
-    unless_refused Refused (first_refusal (content_tests heads seconds statements goal steps room))
+    unless_refused (first_refusal (content_tests heads seconds statements goal steps room))
     (granted heads seconds statements steps)
 
 -- Over the arrays of a file that 1 to 3 let pass these are the record's own tests. Proved in proofs/Whole.antt.
@@ -81,4 +80,4 @@ PartsOfRecord =
 abbrev pub list_written : RecordVerdict → List ℕ → List ℕ → List ℕ → List ℕ → List ℕ → List ℕ
 list_written (Granted count) heads seconds statements steps before =
     written before (arrays_signers heads seconds statements steps)
-list_written (Refused number place) heads seconds statements steps before = before
+list_written (Err refusal) heads seconds statements steps before = before

@@ -1,7 +1,7 @@
 -- Samples of the parts: what `judge_parts`, `judge_steps` and `judge_room` answer, also for arrays that no file has.
 -- Proved in proofs/Samples.antt, by computation. Assumes nothing.
 use Rattle.std.specs.Prelude.{◌≡◌, [], ◌∷◌, map, replicate}
-use Rattle.basics.specs.declared.tested.Tested.TheVariants.{Passed, Refused}
+use Rattle.basics.specs.Tested.{Passed, Refused}
 use Rattle.basics.specs.Refusals.{first_refusal}
 use Rattle.record_check.specs.Parts.{part_tests, room_test, step_test}
 

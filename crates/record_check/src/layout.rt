@@ -5,7 +5,7 @@ ghost use Rattle.file.specs.Layout.{layout_tests};
 ghost use Rattle.record.specs.Layout.{record_layout, most_bytes};
 
 use basics::limits::{MOST_FORMULAS, MOST_STATEMENTS, MOST_STEPS};
-use basics::tested::Tested;
+use basics::refusal::Refusal;
 use file::numbers::fits_and;
 use file::words::word_at;
 
@@ -24,7 +24,7 @@ pub fn file_buffer() -> [u8; MOST_BYTES + 1]
 
 // 1 to 3. "Sizes come first: F formulas (1 to 4,096), S statements (0 to 256), N steps (1 to 16,384), and the goal's
 // formula number", of which nothing is asked here.
-pub fn check_layout(file: &[u8]) -> Tested
+pub fn check_layout(file: &[u8]) -> Result<(), Refusal>
     ensures { result ≡ first_refusal (layout_tests record_layout file.now) }
 {
     let formulas = word_at(file, 0) as usize;

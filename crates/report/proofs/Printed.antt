@@ -10,8 +10,8 @@ use Rattle.basics.proofs.Written.{written_fits}
 use Rattle.text.specs.Fill.{place_after}
 use Rattle.text.proofs.Places.{fill_fits}
 use Rattle.basics.specs.Limits.{most_statements}
-use Rattle.record.specs.declared.verdict.RecordVerdict.{RecordVerdict}
-use Rattle.record.specs.declared.verdict.RecordVerdict.TheVariants as Record
+use Rattle.record.specs.Verdict.{RecordVerdict}
+use Rattle.record.specs.Verdict as Record
 use Rattle.record.specs.Figure1.{record_answer}
 use Rattle.record.specs.ListAfter.{list_after}
 use Rattle.line.specs.RefusedLine.{refused_line}
@@ -19,8 +19,7 @@ use Rattle.line.specs.RecordLine.{record_line}
 use Rattle.line.specs.Figure1.{printed_line}
 use Rattle.line.proofs.Line.{Owed, owed_all}
 use Rattle.line.proofs.Figure1.{line_of_call}
-use Rattle.sentences.specs.declared.verdict.SentencesVerdict.{SentencesVerdict}
-use Rattle.sentences.specs.declared.verdict.SentencesVerdict.TheVariants.{Written, Refused}
+use Rattle.sentences.specs.Verdict.{SentencesVerdict, Written, Refused}
 use Rattle.sentences.specs.Figure1.{record_text, sentences_answer, text_after, printed_for, printed_text}
 use Rattle.sentences.proofs.Figure1.{text_fits}
 

@@ -1,5 +1,5 @@
 // A file's check and the line of its answer, or a record's proof in sentences: all that a program does but reading and
-// writing.
+// writing. (The last promise of a line is that of `line_write`'s whole.rt.)
 #![tactic(auto)]
 
 ghost use Rattle.std.specs.Prelude.{◌≤◌, ◌≡◌, length, replicate, take};
@@ -19,9 +19,8 @@ use independence_check::check::independent_of;
 use line_write::exchange_line::write_exchange_line;
 use line_write::independence_line::write_independence_line;
 use line_write::record_line::write_record_line;
-use record::verdict::RecordVerdict;
 use record_check::check::check_record;
-use sentences::verdict::SentencesVerdict;
+use sentences::counts::Counts;
 use sentences_write::write::write_sentences;
 
 // Every line of a record's answer fits into so many bytes: a count of three digits, and 256 signers of five, each after
@@ -86,9 +85,7 @@ pub fn sentences_text(file: &[u8], text: &mut [u8]) -> usize
 {
     let mut list = [0u16; MOST_STATEMENTS];
     match write_sentences(file, &mut list, text) {
-        SentencesVerdict::Written { signers: _, bytes } => bytes,
-        SentencesVerdict::Refused { number, place } => {
-            write_record_line(RecordVerdict::Refused { number, place }, &list, text)
-        }
+        Ok(Counts { signers: _, bytes }) => bytes,
+        Err(refusal) => write_record_line(Err(refusal), &list, text),
     }
 }

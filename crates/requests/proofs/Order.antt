@@ -16,8 +16,7 @@ use Rattle.basics.proofs.Rising.{one_rising}
 use Rattle.logic.specs.Principals.{Relation, Decides}
 use Rattle.signers.proofs.Each.{signers_are}
 use Rattle.signers.specs.Signers as S
-use Rattle.record.specs.declared.verdict.RecordVerdict.{RecordVerdict}
-use Rattle.record.specs.declared.verdict.RecordVerdict.TheVariants.{Granted}
+use Rattle.record.specs.Verdict.{RecordVerdict, Granted}
 use Rattle.record.specs.Layout.{signers}
 use Rattle.record.specs.ListAfter.{list_after}
 use Rattle.record.proofs.Granted.{granted_exactly}

@@ -5,12 +5,12 @@ use mathlib.Core.Bool.{Bool}
 use mathlib.Core.Path.{◌≡◌, refl, sym, ap, ◌∙◌}
 use mathlib.Core.List.{List, ◌++◌}
 use lib.ListN.{length, drop}
+use Rattle.std.specs.Prelude.{Err, Ok}
 use Rattle.basics.specs.Order.{FirstReason}
 use Rattle.logic.specs.Principals.{Relation, Decides}
 use Rattle.record.specs.Layout.{signers}
 use Rattle.record.specs.Promises.{GrantSays}
-use Rattle.sentences.specs.declared.verdict.SentencesVerdict.{SentencesVerdict}
-use Rattle.sentences.specs.declared.verdict.SentencesVerdict.TheVariants.{Written, Refused}
+use Rattle.sentences.specs.Verdict.{SentencesVerdict, Written, Refused}
 use Rattle.sentences.specs.Answer.{sentences_answer, signers_after, text_after}
 use Rattle.sentences.specs.Promises.{proof_text, sentences_order, SentencesReason}
 use Rattle.sentences.proofs.Text.{text_of_derivation}
@@ -79,11 +79,11 @@ module _ (speaks : ℕ → ℕ → Bool) (R : Relation) (decides : Decides speak
       × (answer ≡ Refused number place)
       × (list' ≡ list)
       × (text' ≡ text)
-  else none (Written count written) e =
-      absurd (none (written_release speaks R decides file (length list) (length text) count written e))
-  else none (Refused number p) e =
-      let (is, same, also) = refused_as number p e in
-      (number, p, (refused_exactly speaks R decides file (length list) (length text) number p).0 e, is, same, also)
+  else none (Ok w) e =
+      absurd (none (written_release speaks R decides file (length list) (length text) w.signers w.bytes e))
+  else none (Err r) e =
+      let (is, same, also) = refused_as r.number r.place e in
+      (r.number, r.place, (refused_exactly speaks R decides file (length list) (length text) r.number r.place).0 e, is, same, also)
 
 pub else_refused : (speaks : ℕ → ℕ → Bool) (R : Relation) → Decides speaks R → ElseRefused speaks R
 else_refused speaks R decides file list list' text text' answer call none =

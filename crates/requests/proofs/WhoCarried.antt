@@ -7,15 +7,16 @@ use mathlib.Core.Logic.{◌↔◌}
 use mathlib.Core.List.{List}
 use lib.ListN.{length}
 use lib.Dec.{ltb}
+use Rattle.std.specs.Prelude.{Err}
 use Rattle.basics.specs.Choice.{pick}
+use Rattle.basics.proofs.Refusals.{same_refusal}
 use Rattle.logic.specs.Principals.{Relation, Decides}
-use Rattle.record.specs.declared.verdict.RecordVerdict.{RecordVerdict}
-use Rattle.record.specs.declared.verdict.RecordVerdict.TheVariants.{Granted, Refused}
+use Rattle.record.specs.Verdict.{RecordVerdict, Granted, Refused}
 use Rattle.record.specs.Layout.{signers}
 use Rattle.record.specs.Answer.{record_answer}
 use Rattle.record.proofs.Answered.{not_granted}
 use Rattle.record.proofs.Eight.{eight_exactly}
-use Rattle.sentences.specs.declared.verdict.SentencesVerdict.TheVariants as Sentences
+use Rattle.sentences.specs.Verdict as Sentences
 use Rattle.sentences.specs.Answer.{record_text, after_record}
 use Rattle.sentences.proofs.Answer.{not_written, answer_after_record}
 use Rattle.demands.proofs.Release.{has_signers, are_signers}
@@ -44,7 +45,7 @@ eight_counts speaks R decides file before answer is p =
 -- What follows a record's answer is 8 exactly where that is: a grant leads to 16 or to the text.
 after_record_lem : (speaks : ℕ → ℕ → Bool) (file : List ℕ) (bytes p : ℕ) (v : RecordVerdict)
     → after_record speaks file bytes v ≡ Sentences.Refused 8 p ↔ v ≡ Refused 8 p
-after_record_lem speaks file bytes p (Refused number q) = (λ e. cc, λ e. cc)
+after_record_lem speaks file bytes p (Err r) = (λ e. cc, λ e. cc)
 after_record_lem speaks file bytes p (Granted count) = (
   λ e. absurd (by (ltb bytes (length (record_text speaks file))) e),
   λ e. absurd (not_granted (sym e)),
@@ -53,7 +54,7 @@ after_record_lem speaks file bytes p (Granted count) = (
     by : (short : Bool)
         → ¬ (pick short (Sentences.Refused 16 0) (Sentences.Written count (length (record_text speaks file)))
         ≡ Sentences.Refused 8 p)
-    by true e = let same : ◌≡◌ {A = ℕ} 16 8 = cc in omega arith
+    by true e = let (same, _) = same_refusal e in omega arith
     by false e = not_written (sym e)
 
 pub eight_of_sentences : (speaks : ℕ → ℕ → Bool) (R : Relation) → Decides speaks R → EightOfSentences speaks R

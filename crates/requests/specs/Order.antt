@@ -8,7 +8,7 @@ use Rattle.logic.specs.Principals.{Relation}
 use Rattle.table.specs.declared.entry.Entry.{Entry}
 use Rattle.signers.specs.Signers.{signers}
 use Rattle.signers.specs.Each.{Signs}
-use Rattle.record.specs.declared.verdict.RecordVerdict.{RecordVerdict}
+use Rattle.record.specs.Verdict.{RecordVerdict}
 use Rattle.record.specs.Answer.{record_answer}
 use Rattle.record.specs.ListAfter.{list_after}
 use Rattle.line.specs.RecordLine.{record_line}

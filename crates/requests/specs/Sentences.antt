@@ -3,8 +3,7 @@
 use Rattle.std.specs.Prelude.{ℕ, ◌≤◌, Bool, ◌≡◌, List, ◌++◌, length, drop}
 use Rattle.basics.specs.Order.{FirstReason}
 use Rattle.logic.specs.Principals.{Relation}
-use Rattle.sentences.specs.declared.verdict.SentencesVerdict.{SentencesVerdict}
-use Rattle.sentences.specs.declared.verdict.SentencesVerdict.TheVariants.{Written, Refused}
+use Rattle.sentences.specs.Verdict.{SentencesVerdict, Written, Refused}
 use Rattle.sentences.specs.Answer.{sentences_answer, signers_after, text_after}
 use Rattle.sentences.specs.Promises.{proof_text, sentences_order, SentencesReason}
 use Rattle.demands.specs.Release.{Release}

@@ -3,12 +3,11 @@
 -- Proved in proofs/WhoCarried.antt. Assumes nothing.
 use Rattle.std.specs.Prelude.{ℕ, ◌<◌, Bool, ◌≡◌, ◌↔◌, List, [], ◌∷◌, length, drop}
 use Rattle.logic.specs.Principals.{Relation}
-use Rattle.record.specs.declared.verdict.RecordVerdict.{RecordVerdict}
-use Rattle.record.specs.declared.verdict.RecordVerdict.TheVariants.{Refused}
+use Rattle.record.specs.Verdict.{RecordVerdict, Refused}
 use Rattle.record.specs.Answer.{record_answer}
 use Rattle.record.specs.Proof.{Keeps, IsProof}
-use Rattle.sentences.specs.declared.verdict.SentencesVerdict.{SentencesVerdict}
-use Rattle.sentences.specs.declared.verdict.SentencesVerdict.TheVariants as Sentences
+use Rattle.sentences.specs.Verdict.{SentencesVerdict}
+use Rattle.sentences.specs.Verdict as Sentences
 use Rattle.sentences.specs.Answer.{sentences_answer}
 use Rattle.sentences.specs.Promises.{sentences_order}
 use Rattle.demands.specs.Release.{Signers}

@@ -1,19 +1,14 @@
--- Laws of tests 10 to 12: which numbers have an entry, which codes have no rule, and that with 12 answered by the slots
--- a step is the rule of its word's code. Assumes nothing.
-use Prim.Native.Nat.{ℕ, ◌<◌, ◌≤◌, min}
-use native.Mathlib.Omega.{arith}
-use mathlib.Core.Bool.{Bool, true, false}
-use mathlib.Core.Path.{◌≡◌, refl, sym, ◌∙◌}
+-- Laws of tests 10 to 12: with 12 answered by the slots, a step is the rule of its word's code. Assumes nothing.
+use Prim.Native.Nat.{ℕ, ◌<◌, ◌≤◌}
+use mathlib.Core.Path.{◌≡◌, refl, ◌∙◌}
 use mathlib.Core.List.{List}
-use lib.ListN.{length, get_or, get_or-eq_default}
+use lib.ListN.{length, get_or}
 use lib.Dec.{ltb}
-use borrow.Author.Tests.{lt-ltb, le-ltb, le-leb, lt-leb, ltb-true, ltb-false}
+use borrow.Author.Tests.{le-leb, lt-leb}
 use Rattle.basics.specs.Choice.{both}
 use Rattle.basics.specs.Limits.{most_depth}
 use Rattle.basics.specs.Word.{upper, lower}
 use Rattle.table.specs.declared.entry.Entry.{Entry}
-use Rattle.table.specs.Tests.{entries}
-use Rattle.table.proofs.Entries.{length_entries}
 use Rattle.steps.specs.declared.goal.Goal.{Goal}
 use Rattle.steps.specs.declared.opened.Opened.{Opened}
 use Rattle.steps.specs.declared.opened.Opened.TheVariants as Opening
@@ -23,23 +18,7 @@ use Rattle.steps.specs.Figure1 as Figure1
 use Rattle.steps.specs.Figure1.{same}
 use Rattle.hypotheses.specs.Slots.{is_held, shown}
 use Rattle.hypotheses.proofs.Shown.{shows_shown}
-use Rattle.basics.proofs.Past.{NoneBelow, past}
 use Rattle.rules.specs.Tested.{tested, TestedIsApplied}
-
--- A number has an entry where both arrays have a word.
-pub has_entry : (hs ss : List ℕ) (n : ℕ) → both (ltb n (length hs)) (ltb n (length ss)) ≡ ltb n (length (entries hs ss))
-has_entry hs ss n = by_tests (ltb n (length hs)) (ltb n (length ss)) refl refl (length_entries hs ss)
-  where
-    by_tests : (s t : Bool) → ltb n (length hs) ≡ s → ltb n (length ss) ≡ t → length (entries hs ss) ≡ min (length hs) (length ss)
-        → both s t ≡ ltb n (length (entries hs ss))
-    by_tests true true p q m = sym (lt-ltb n (length (entries hs ss)) (omega (arith, ltb-true)))
-    by_tests true false p q m = sym (le-ltb n (length (entries hs ss)) (omega (arith, ltb-false)))
-    by_tests false t p q m = sym (le-ltb n (length (entries hs ss)) (omega (arith, ltb-false)))
-
--- A code past the last is no rule, and is refused 11.
-pub no_rule : (es : List Entry) (code : ℕ) (held : Bool) (n : ℕ) (g : Goal) → NoneBelow 12 code
-    → Opening.Refused 11 ≡ tested (get_or (rules same es) code unknown) held n g
-no_rule es code held n g none = rw (get_or-eq_default (rules same es) unknown (past 12 code none))
 
 -- the obligation at a place of the walk
 abbrev pub here : List ℕ → Goal → ℕ → Obligation
@@ -61,7 +40,7 @@ module _ (es : List Entry) (slots : List ℕ) (g : Goal) (d w : ℕ) where
   too_deep l = rw (lt-leb d most_depth l)
 
   -- and at any other it is the rule of its word's code.
-  pub step_is : d ≤ most_depth → {code n : ℕ} → code ≡ upper w → n ≡ lower w
+  step_is : d ≤ most_depth → {code n : ℕ} → code ≡ upper w → n ≡ lower w
       → by_slots es slots g code n ≡ Figure1.step es w (here slots g d)
   unfolding step opens
   step_is l k m =

@@ -7,7 +7,7 @@ ghost use Rattle.std.specs.Prelude.{◌≤◌, ◌≡◌, length, take};
 
 use ending::ends_with;
 use exchange_check::layout::file_buffer;
-use failure::{Watched, fail};
+use failure::fail;
 use input::read_input;
 use report::{exchange_line, line_buffer, record_line};
 use std::env::FillError;
@@ -40,16 +40,12 @@ fn print_line(rt: HostRuntime, name: &[u8], file: &[u8]) {
 
 // Reads a file that is open, and prints its line. Where it can't be read, standard error says so. An exchange file is
 // the longer one, and a record longer than the longest has the answer of its first bytes (`LongerFile`).
-fn check_open(rt: HostRuntime, name: &[u8], open: File) {
+fn check_open(rt: HostRuntime, name: &[u8], mut open: File) {
     let mut file = file_buffer();
-    let mut open = Watched::new(open);
-    let input = read_input(&mut open, &mut file);
-    if !input.ok {
-        open.fail(rt, name);
-        return;
+    match read_input(&mut open, &mut file) {
+        Ok(n) => print_line(rt, name, &file[..n]),
+        Err(failed) => fail(rt, name, failed.error),
     }
-    let n = input.count;
-    print_line(rt, name, &file[..n]);
 }
 
 // Checks the file that an argument names. (std opens a file only by a name in UTF-8.)

@@ -6,7 +6,7 @@ use lib.ListN.{length}
 use Rattle.logic.specs.Figure1.{Same}
 use Rattle.steps.specs.Figure1.{same}
 use Rattle.steps.proofs.Figure1.{same_lawful}
-use Rattle.sentences.specs.declared.verdict.SentencesVerdict.TheVariants.{Written}
+use Rattle.sentences.specs.Verdict.{Written}
 use Rattle.sentences.specs.Figure1.{record_text, sentences_answer, AnswerAfterRecord, TextOfDerivation, LinePerStep, SameLines, SameText, WrittenExactly, RefusedExactly, AnswersSmall, LongerFile, WholeText}
 use Rattle.sentences.proofs.Text as Text
 use Rattle.sentences.proofs.Answer as Answer

@@ -5,12 +5,12 @@ use mathlib.Core.Bool.{Bool}
 use mathlib.Core.Path.{◌≡◌, refl, subst}
 use mathlib.Core.List.{List}
 use lib.ListN.{length}
+use Rattle.std.specs.Prelude.{Err, Ok}
 use Rattle.basics.specs.Limits.{most_statements}
 use Rattle.line.specs.RecordLine.{most_line}
 use Rattle.line.proofs.LineFits.{refused_fits}
 use Rattle.line.proofs.Printed.{fits_whole}
-use Rattle.sentences.specs.declared.verdict.SentencesVerdict.{SentencesVerdict}
-use Rattle.sentences.specs.declared.verdict.SentencesVerdict.TheVariants.{Written, Refused}
+use Rattle.sentences.specs.Verdict.{SentencesVerdict, Written, Refused}
 use Rattle.sentences.specs.Answer.{sentences_answer}
 use Rattle.sentences.specs.Promises.{Small}
 use Rattle.sentences.specs.Printed.{printed_for, printed_text, WholeText}
@@ -21,10 +21,10 @@ use Rattle.sentences.proofs.Small.{answers_small}
 fits : (speaks : ℕ → ℕ → Bool) (file : List ℕ) (bytes : ℕ) → most_line ≤ bytes → (v : SentencesVerdict)
     → sentences_answer speaks file most_statements bytes ≡ v
     → length (printed_for speaks file v) ≤ bytes
-fits speaks file bytes room (Written count written) e = (text_fits speaks file most_statements bytes count written e).0
-fits speaks file bytes room (Refused number place) e =
+fits speaks file bytes room (Ok w) e = (text_fits speaks file most_statements bytes w.signers w.bytes e).0
+fits speaks file bytes room (Err r) e =
     let (least, most, within) = subst (Small bytes) e (answers_small speaks file most_statements bytes) in
-    omega (arith, refused_fits number place (omega arith) within)
+    omega (arith, refused_fits r.number r.place (omega arith) within)
 
 pub whole_text : (speaks : ℕ → ℕ → Bool) → WholeText speaks
 whole_text speaks file before count after counted is room =

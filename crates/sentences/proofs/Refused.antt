@@ -7,15 +7,16 @@ use mathlib.Core.Path.{◌≡◌, refl, sym, ap, subst, ◌∙◌}
 use mathlib.Core.List.{List, [], ◌∷◌}
 use lib.ListN.{length}
 use lib.Dec.{ltb}
+use Rattle.std.specs.Prelude.{Err}
 use Rattle.basics.specs.Choice.{pick}
 use Rattle.basics.specs.Membership.{◌∈◌}
 use Rattle.basics.specs.Order.{FirstReason, checking_order, before}
 use Rattle.basics.proofs.Asked.{less}
-use Rattle.basics.proofs.Refusals.{passed_by_all}
+use Rattle.basics.proofs.Refusals.{same_refusal, refused_as, passed_by_all}
 use Rattle.basics.proofs.Order.{none_has, before_joined, before_in, in_checking_order, of_checking_order}
 use Rattle.logic.specs.Principals.{Relation, Decides}
-use Rattle.record.specs.declared.verdict.RecordVerdict.{RecordVerdict}
-use Rattle.record.specs.declared.verdict.RecordVerdict.TheVariants as Verdict
+use Rattle.record.specs.Verdict.{RecordVerdict}
+use Rattle.record.specs.Verdict as Verdict
 use Rattle.record.specs.Answer as Record
 use Rattle.record.specs.Answer.{record_answer}
 use Rattle.record.specs.Reasons.{Reason}
@@ -23,7 +24,7 @@ use Rattle.record.proofs.Answered.{answer_granted}
 use Rattle.record.proofs.Granted.{granted_exactly}
 use Rattle.record.proofs.Reasons as Reasons
 use Rattle.record.proofs.Reasons.{reasons, reason_range}
-use Rattle.sentences.specs.declared.verdict.SentencesVerdict.TheVariants.{Written, Refused}
+use Rattle.sentences.specs.Verdict.{Written, Refused}
 use Rattle.sentences.specs.Answer.{record_text, after_record}
 use Rattle.sentences.specs.Promises.{sentences_order, SentencesReason, of_record, text_short, RefusedExactly}
 use Rattle.sentences.proofs.Answer.{not_written, answer_after_record}
@@ -91,10 +92,8 @@ module _ (speaks : ℕ → ℕ → Bool) (R : Relation) (decides : Decides speak
   refuses : (v : RecordVerdict) → record_answer speaks file room ≡ v → (number p : ℕ) → after_record speaks file bytes v
       ≡ Refused number p
       → FirstReason sentences_order (SentencesReason speaks R file room bytes) number p
-  refuses (Verdict.Refused n q) e number p is =
-      let f : n ≡ number = cc in
-      let g : q ≡ p = cc in
-      first_of_record number p ((Reasons.refused_exactly speaks file room number p).0 (e ∙ cc))
+  refuses (Err r) e number p is =
+      first_of_record number p ((Reasons.refused_exactly speaks file room number p).0 (e ∙ refused_as r is))
   refuses (Verdict.Granted count) e number p is = short (ltb bytes (length (record_text speaks file))) refl is
     where
       none : (n q : ℕ) → n ∈ before sentences_order 16 → ¬ SentencesReason speaks R file room bytes n q
@@ -109,8 +108,7 @@ module _ (speaks : ℕ → ℕ → Bool) (R : Relation) (decides : Decides speak
           let grant = (granted_exactly speaks R decides file room count).0 e in
           let text = ap length (text_of_derivation speaks R decides file grant.keeps grant.is_proof) in
           let l = (less bytes (length (record_text speaks file))).0 t in
-          let f : 16 ≡ number = cc in
-          let g : 0 ≡ p = cc in
+          let (f, g) = same_refusal h in
           record {
             applies = text_short (sym f) (sym g) grant.is_proof (omega (arith, text));
             none_before = λ n q m. none n q (subst (λ (k : ℕ). n ∈ before sentences_order k) (sym f) m);
@@ -121,12 +119,12 @@ module _ (speaks : ℕ → ℕ → Bool) (R : Relation) (decides : Decides speak
       → SentencesReason speaks R file room bytes number p
       → ((n q : ℕ) → n ∈ before sentences_order number → ¬ SentencesReason speaks R file room bytes n q)
       → after_record speaks file bytes v ≡ Refused number p
-  refused_by (Verdict.Refused n q) e number p (of_record r) none =
+  refused_by (Err r') e number p (of_record r) none =
       let is = sym e ∙ (Reasons.refused_exactly speaks file room number p).1 (of_first number p r none) in cc
-  refused_by (Verdict.Refused n q) e number p (text_short sixteen z proof l) none =
-      let r = ((Reasons.refused_exactly speaks file room n q).0 e).applies in
-      let m : n ∈ before sentences_order 16 = subst (λ (o : List ℕ). n ∈ o) (sym before_16) (of_order n q r) in
-      absurd (none n q (subst (λ (k : ℕ). n ∈ before sentences_order k) (sym sixteen) m) (of_record r))
+  refused_by (Err r') e number p (text_short sixteen z proof l) none =
+      let r = ((Reasons.refused_exactly speaks file room r'.number r'.place).0 e).applies in
+      let m : r'.number ∈ before sentences_order 16 = subst (λ (o : List ℕ). r'.number ∈ o) (sym before_16) (of_order r'.number r'.place r) in
+      absurd (none r'.number r'.place (subst (λ (k : ℕ). r'.number ∈ before sentences_order k) (sym sixteen) m) (of_record r))
   refused_by (Verdict.Granted count) e number p (of_record r) none = absurd (no_reason count e number p r)
   refused_by (Verdict.Granted count) e number p (text_short sixteen z proof l) none =
       let grant = (granted_exactly speaks R decides file room count).0 e in

@@ -7,12 +7,13 @@ use mathlib.Core.Path.{◌≡◌, refl, sym, ap, subst, ◌∙◌}
 use mathlib.Core.List.{List}
 use lib.ListN.{length, take}
 use lib.Dec.{ltb}
+use Rattle.std.specs.Prelude.{Err}
 use Rattle.basics.proofs.Asked.{not_less}
 use Rattle.basics.proofs.Choice.{pick_cases}
 use Rattle.file.proofs.LayoutLaws.{sized_most}
 use Rattle.logic.proofs.Principals.{Decided, decided}
-use Rattle.record.specs.declared.verdict.RecordVerdict.{RecordVerdict}
-use Rattle.record.specs.declared.verdict.RecordVerdict.TheVariants as Verdict
+use Rattle.record.specs.Verdict.{RecordVerdict}
+use Rattle.record.specs.Verdict as Verdict
 use Rattle.record.specs.Layout.{record_layout, most_bytes}
 use Rattle.record.specs.Answer.{record_answer}
 use Rattle.record.specs.Promises as Record
@@ -30,7 +31,7 @@ small_after speaks file bytes (Verdict.Granted count) few =
     pick_cases (Small bytes) (ltb bytes (length (record_text speaks file)))
     (λ e. (omega arith, omega arith, omega arith))
     (λ e. (few, (not_less bytes (length (record_text speaks file))).0 e))
-small_after speaks file bytes (Verdict.Refused number p) (least, most, within) = (least, omega arith, within)
+small_after speaks file bytes (Err r) (least, most, within) = (least, omega arith, within)
 
 pub answers_small : (speaks : ℕ → ℕ → Bool) → AnswersSmall speaks
 answers_small speaks file room bytes =
@@ -46,7 +47,7 @@ not_granted speaks file other room bytes long (Verdict.Granted count) e =
     let grant = (granted_exactly speaks (Decided speaks) (decided speaks) file room count).0 e in
     let most = sized_most record_layout bounded file ((sized file).1 grant.keeps.sized) in
     absurd (omega arith)
-not_granted speaks file other room bytes long (Verdict.Refused number p) e = refl
+not_granted speaks file other room bytes long (Err r) e = refl
 
 pub longer_file : (speaks : ℕ → ℕ → Bool) → LongerFile speaks
 longer_file speaks file room bytes long =

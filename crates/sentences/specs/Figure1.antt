@@ -5,8 +5,8 @@ use Rattle.std.specs.Prelude.{ℕ, List}
 use Rattle.logic.specs.Figure1.{Same}
 use Rattle.steps.specs.Trace.{Line}
 use Rattle.steps.specs.Figure1.{same}
-use Rattle.record.specs.declared.verdict.RecordVerdict.{RecordVerdict}
-use Rattle.sentences.specs.declared.verdict.SentencesVerdict.{SentencesVerdict}
+use Rattle.record.specs.Verdict.{RecordVerdict}
+use Rattle.sentences.specs.Verdict.{SentencesVerdict}
 use Rattle.sentences.specs.Answer as Every
 use Rattle.sentences.specs.Printed as AnyPrinted
 use Rattle.sentences.specs.Promises as Promises

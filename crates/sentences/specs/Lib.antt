@@ -5,6 +5,7 @@ pub mod Formula
 pub mod Sentences
 pub mod Feeds
 pub mod Told
+pub mod Verdict
 pub mod Answer
 pub mod Promises
 pub mod Printed

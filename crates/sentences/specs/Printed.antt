@@ -1,12 +1,11 @@
 -- What the program for sentences prints for a file: the text, or 01's line of a refusal. It lends a list of 256 words
 -- and 1 MiB. Proved in proofs/Printed.antt. Assumes nothing.
-use Rattle.std.specs.Prelude.{ℕ, ◌≤◌, Bool, ◌≡◌, List, ◌++◌, length, drop}
+use Rattle.std.specs.Prelude.{ℕ, ◌≤◌, Bool, ◌≡◌, List, ◌++◌, length, drop, Err, Ok}
 use Rattle.basics.specs.Limits.{most_statements}
 use Rattle.line.specs.Line.{line_after, line_count}
 use Rattle.line.specs.RefusedLine.{refused_line}
 use Rattle.line.specs.RecordLine.{most_line}
-use Rattle.sentences.specs.declared.verdict.SentencesVerdict.{SentencesVerdict}
-use Rattle.sentences.specs.declared.verdict.SentencesVerdict.TheVariants.{Written, Refused}
+use Rattle.sentences.specs.Verdict.{SentencesVerdict, Written, Refused}
 use Rattle.sentences.specs.Answer.{record_text, sentences_answer}
 
 -- 1 MiB
@@ -16,8 +15,8 @@ most_text = 1048576
 module _ (speaks : ℕ → ℕ → Bool) where
   -- what is printed for an answer
   abbrev pub printed_for : List ℕ → SentencesVerdict → List ℕ
-  printed_for file (Written count bytes) = record_text speaks file
-  printed_for file (Refused number place) = refused_line number place
+  printed_for file (Ok counts) = record_text speaks file
+  printed_for file (Err refusal) = refused_line refusal.number refusal.place
 
   -- where a list of 256 words and so many bytes are lent
   abbrev pub printed_text : List ℕ → ℕ → List ℕ

@@ -1,7 +1,7 @@
 -- What is promised of a record's proof in sentences (02, job 2), for every test on principals and the relation that it
 -- decides. Each is proved in proofs/ under its name in small letters, and fixed to Figure 1 in Figure1.antt. Assumes
 -- nothing.
-use Rattle.std.specs.Prelude.{ℕ, suc, ◌≤◌, ◌<◌, Bool, ◌≡◌, ◌↔◌, List, [], ◌∷◌, ◌++◌, map, length, take}
+use Rattle.std.specs.Prelude.{ℕ, suc, ◌≤◌, ◌<◌, Bool, ◌≡◌, ◌↔◌, List, [], ◌∷◌, ◌++◌, map, length, take, Err, Ok}
 use Rattle.std.proofs.Math.Option.{Option}
 use Rattle.basics.specs.Limits.{most_statements, most_steps}
 use Rattle.basics.specs.Order.{FirstReason, checking_order}
@@ -12,8 +12,7 @@ use Rattle.record.specs.Layout.{steps, most_bytes}
 use Rattle.record.specs.Proof.{Keeps, goal_of, IsProof}
 use Rattle.record.specs.Reasons.{Reason}
 use Rattle.record.specs.Promises.{GrantSays}
-use Rattle.sentences.specs.declared.verdict.SentencesVerdict.{SentencesVerdict}
-use Rattle.sentences.specs.declared.verdict.SentencesVerdict.TheVariants.{Written, Refused}
+use Rattle.sentences.specs.Verdict.{SentencesVerdict, Written, Refused}
 use Rattle.sentences.specs.Sentences.{sentences}
 use Rattle.sentences.specs.Answer.{record_lines, record_text, sentences_answer}
 
@@ -75,8 +74,8 @@ sentences_order = checking_order ++ (16 ∷ [])
 
 -- How large an answer can be, where so many bytes are lent.
 abbrev pub Small : ℕ → SentencesVerdict → Type 0
-Small bytes (Written count size) = (count ≤ most_statements) × (size ≤ bytes)
-Small bytes (Refused number p) = (1 ≤ number) × (number ≤ 16) × (p ≤ most_steps)
+Small bytes (Ok counts) = (counts.signers ≤ most_statements) × (counts.bytes ≤ bytes)
+Small bytes (Err refusal) = (1 ≤ refusal.number) × (refusal.number ≤ 16) × (refusal.place ≤ most_steps)
 
 module _ (speaks : ℕ → ℕ → Bool) (R : Relation) where
   abbrev pub WrittenExactly : Type 0

@@ -4,8 +4,7 @@ use Prim.Native.String.{String, ◌++◌ as ◌then◌}
 use Rattle.text.specs.Ascii.{ascii}
 use Rattle.file.specs.Words.{file_of}
 use Rattle.record.specs.Samples.{over_t, bytes_of_a}
-use Rattle.sentences.specs.declared.verdict.SentencesVerdict.{SentencesVerdict}
-use Rattle.sentences.specs.declared.verdict.SentencesVerdict.TheVariants.{Written, Refused}
+use Rattle.sentences.specs.Verdict.{SentencesVerdict, Written, Refused}
 use Rattle.sentences.specs.Answer.{signers_after}
 use Rattle.sentences.specs.Figure1.{record_text, sentences_answer, text_after}
 

@@ -1,4 +1,4 @@
-// The answer of a call that writes a record's proof in sentences. `sentences_write` has the call.
+// A record's proof in sentences: definitions and theorems, and what a call counts. `sentences_write` has the code.
 #![tactic(auto)]
 
-pub mod verdict;
+pub mod counts;

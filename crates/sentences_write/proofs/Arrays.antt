@@ -8,9 +8,7 @@ use mathlib.Core.List.{List, [], ◌∷◌}
 use lib.ListN.{length, replicate, length-replicate}
 use lib.Dec.{ltb}
 use borrow.Author.Tests.{lt-ltb}
-use Rattle.basics.specs.declared.tested.Tested.{Tested}
-use Rattle.basics.specs.declared.tested.Tested.TheVariants as Outcome
-use Rattle.basics.specs.declared.tested.Tested.TheVariants.{Passed}
+use Rattle.basics.specs.Tested.{Tested, Passed}
 use Rattle.basics.specs.Choice.{pick}
 use Rattle.basics.specs.Limits.{most_formulas, most_steps, most_depth}
 use Rattle.basics.specs.Refusals.{first_refusal, unless_refused}
@@ -21,7 +19,7 @@ use Rattle.text.specs.Fill.{place_after}
 use Rattle.text.proofs.Places.{fill_fits}
 use Rattle.table.specs.Tests.{entries}
 use Rattle.table.proofs.Entries.{length_entries}
-use Rattle.steps.specs.declared.verdict.WalkVerdict.TheVariants.{Closed}
+use Rattle.steps.specs.Verdict.{Closed}
 use Rattle.steps.specs.Obligation.{obligation}
 use Rattle.steps.specs.Figure1.{run}
 use Rattle.steps.proofs.Figure1.{closed_uses_all}
@@ -32,8 +30,7 @@ use Rattle.record_check.proofs.PartTests.{sizes_fit_exactly}
 use Rattle.goals.specs.Kept.{lines_at}
 use Rattle.goals.specs.Goals.{goals_of, numbers_of, affirms_of}
 use Rattle.goals.proofs.Trace.{goals_written}
-use Rattle.sentences.specs.declared.verdict.SentencesVerdict.{SentencesVerdict}
-use Rattle.sentences.specs.declared.verdict.SentencesVerdict.TheVariants.{Written, Refused}
+use Rattle.sentences.specs.Verdict.{SentencesVerdict, Written, Refused}
 use Rattle.sentences.specs.Sentences.{sentences_from}
 use Rattle.formula_write.specs.Length.{too_long, capped}
 use Rattle.sentences_write.specs.Arrays.{arrays_text, arrays_answer}
@@ -84,15 +81,12 @@ module _ (heads seconds statements : List ℕ) (goal : ℕ) (steps : List ℕ) (
     by_16 short = pick short (Refused 16 0)
         (Written (length (arrays_signers heads seconds statements steps)) (length text))
 
-    pub refused_to_8 : {number p : ℕ} → t ≡ Outcome.Refused number p → Refused number p ≡ all
-    refused_to_8 e = ap (λ (o : Tested). unless_refused Refused o (by_16 (ltb bytes (length text)))) (sym e ∙ judged)
-
     module _ (passed : t ≡ Passed) (few : length steps ≤ most_steps) {ns bs : List ℕ}
         (numbers : ns ≡ written (replicate most_steps 0) (numbers_of (goals_of (entries heads seconds) steps goal)))
         (affirms : bs ≡ written (replicate most_steps 0) (affirms_of (goals_of (entries heads seconds) steps goal)))
       where
         after_15 : all ≡ by_16 (ltb bytes (length text))
-        after_15 = ap (λ (o : Tested). unless_refused Refused o (by_16 (ltb bytes (length text)))) (sym judged ∙ passed)
+        after_15 = ap (λ (o : Tested). unless_refused o (by_16 (ltb bytes (length text)))) (sym judged ∙ passed)
 
         -- what the code writes is the text
         pub text_is : sentences_from 0 (lines_at (entries heads seconds) steps ns bs) ≡ text

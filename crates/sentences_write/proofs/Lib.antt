@@ -1,7 +1,7 @@
 -- The laws behind the code.
 pub mod Names
 pub mod Named
-pub mod Reached
+pub mod Given
 pub mod LineLengths
 pub mod Arrays
 pub mod Whole

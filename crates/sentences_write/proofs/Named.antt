@@ -4,7 +4,6 @@ use mathlib.Core.Bool.{Bool, true, false}
 use mathlib.Core.Path.{◌≡◌, sym, ap, ap₂, ◌∙◌}
 use mathlib.Core.Option.{some, none}
 use mathlib.Core.List.{List, ◌++◌}
-use lib.ListN.{get_or-eq_default}
 use Rattle.basics.specs.Choice.{pick}
 use Rattle.basics.specs.Word.{upper, lower}
 use Rattle.text.specs.Ascii.{ascii}
@@ -15,22 +14,13 @@ use Rattle.table.specs.Spelled.{spell}
 use Rattle.steps.specs.declared.goal.Goal.{Goal}
 use Rattle.steps.specs.Carried.{judgment}
 use Rattle.steps.specs.Figure1.{same}
-use Rattle.steps.specs.Naming.{namings, is_naming}
+use Rattle.steps.specs.Naming.{is_naming}
 use Rattle.steps.proofs.Naming.{naming_is_named}
-use Rattle.basics.proofs.Past.{NoneBelow, past}
 use Rattle.goals.specs.Kept.{line_at}
 use Rattle.sentences.specs.Formula.{proposition_text, goal_text}
 use Rattle.sentences.specs.Sentences.{rule_name, named_text, line_text}
 use Rattle.sentences_write.specs.NamedAt.{named_at}
 use Rattle.formula_write.proofs.Filled.{Filled, filled_as, filled_none}
-
--- Whether a code's rule names a formula, where the code is known, and from 12 on.
-pub naming_of : {code k : ℕ} → code ≡ k → is_naming k ≡ is_naming code
-naming_of e = ap is_naming (sym e)
-
-pub naming_none : (code : ℕ) → NoneBelow 12 code → false ≡ is_naming code
-unfolding is_naming
-naming_none code other = sym (get_or-eq_default namings false (past 12 code other))
 
 -- the text of what a rule names, where it is known whether it names a formula
 pub named_text_lem : (es : List Entry) (code n : ℕ) {naming b : Bool} → naming ≡ is_naming code → naming ≡ b

@@ -6,22 +6,22 @@ use mathlib.Core.Path.{◌≡◌, refl, sym, ap, ◌∙◌}
 use mathlib.Core.List.{List, ◌++◌}
 use lib.ListN.{length, drop}
 use lib.Dec.{ltb}
-use Rattle.basics.specs.declared.tested.Tested.{Tested}
-use Rattle.basics.specs.declared.tested.Tested.TheVariants as Outcome
+use Rattle.std.specs.Prelude.{Err, Ok}
+use Rattle.basics.specs.Tested.{Tested}
+use Rattle.basics.specs.Tested as Outcome
 use Rattle.basics.specs.Choice.{pick}
 use Rattle.basics.specs.Limits.{most_steps}
 use Rattle.basics.specs.Refusals.{first_refusal, unless_refused}
 use Rattle.basics.proofs.Written.{written_fits}
 use Rattle.file.specs.Layout.{layout_tests}
 use Rattle.file.proofs.LayoutLaws.{parts_whole, sized_most}
-use Rattle.record.specs.declared.verdict.RecordVerdict.TheVariants as Verdict
+use Rattle.record.specs.Verdict as Verdict
 use Rattle.record.specs.Layout.{record_layout, goal, heads, seconds, statements, steps, most_bytes, signers}
 use Rattle.record.specs.Proof.{Sized}
 use Rattle.record.proofs.LayoutIs.{bounded, sized}
 use Rattle.record_check.specs.Parts.{content_tests}
 use Rattle.record_check.proofs.Whole.{layout_refused, parts_of_record}
-use Rattle.sentences.specs.declared.verdict.SentencesVerdict.{SentencesVerdict}
-use Rattle.sentences.specs.declared.verdict.SentencesVerdict.TheVariants.{Written, Refused}
+use Rattle.sentences.specs.Verdict.{SentencesVerdict, Written, Refused}
 use Rattle.sentences.specs.Answer.{signers_after}
 use Rattle.sentences.specs.Figure1.{record_text, sentences_answer, text_after, after_record}
 use Rattle.sentences.proofs.Figure1.{answer_after_record, text_fits, written_exactly}
@@ -49,12 +49,12 @@ module _ (file : List ℕ) where
 
     -- what follows the record's tests
     after : (bytes : ℕ) (t : Tested)
-        → unless_refused Refused t
+        → unless_refused t
         (pick (ltb bytes (length (record_text file))) (Refused 16 0)
         (Written (length (signers file)) (length (record_text file))))
-        ≡ after_record file bytes (unless_refused Verdict.Refused t (Verdict.Granted (length (signers file))))
+        ≡ after_record file bytes (unless_refused t (Verdict.Granted (length (signers file))))
     after bytes Outcome.Passed = refl
-    after bytes (Outcome.Refused number p) = refl
+    after bytes (Err r) = refl
 
     answers : (room bytes : ℕ)
         → arrays_answer (heads file) (seconds file) (statements file) (goal file) (steps file) room bytes
@@ -71,14 +71,14 @@ module _ (file : List ℕ) where
         → list' ≡ list_written (heads file) (seconds file) (statements file) (goal file) (steps file) v list
         → text' ≡ text_written (heads file) (seconds file) (statements file) (goal file) (steps file) v text
         → (list' ≡ signers_after file v list) × (text' ≡ text_after file v text)
-    leaves list text (Written count size) e w x =
-        let grant = ((written_exactly file (length list) (length text) count size).0 (sym e)).grant in
-        let (fits, counted) = text_fits file (length list) (length text) count size (sym e) in (
+    leaves list text (Ok w') e w x =
+        let grant = ((written_exactly file (length list) (length text) w'.signers w'.bytes).0 (sym e)).grant in
+        let (fits, counted) = text_fits file (length list) (length text) w'.signers w'.bytes (sym e) in (
           w ∙ written_fits list (signers file) grant.fits
               ∙ ap (λ (n : ℕ). signers file ++ drop n list) (sym grant.counted),
           x ∙ written_fits text (record_text file) fits ∙ ap (λ (n : ℕ). record_text file ++ drop n text) (sym counted),
         )
-    leaves list text (Refused number place) e w x = (w, x)
+    leaves list text (Err r) e w x = (w, x)
 
     -- so what the code answers over the parts that it took, and leaves
     pub whole :

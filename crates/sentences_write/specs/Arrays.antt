@@ -1,6 +1,6 @@
 -- What a call answers and leaves over a record's arrays, which `judge_contents` has tested: its parts of
 -- `sentences_answer`, `signers_after` and `text_after` (sentences/specs/Answer.antt). Assumes nothing.
-use Rattle.std.specs.Prelude.{ℕ, List, [], ◌∷◌, length, ltb}
+use Rattle.std.specs.Prelude.{ℕ, List, [], ◌∷◌, length, ltb, Err, Ok}
 use Rattle.basics.specs.Choice.{pick}
 use Rattle.basics.specs.Refusals.{first_refusal, unless_refused}
 use Rattle.basics.specs.Written.{written}
@@ -9,8 +9,7 @@ use Rattle.steps.specs.Obligation.{obligation}
 use Rattle.steps.specs.Figure1.{trace}
 use Rattle.signers_write.specs.Arrays.{arrays_signers}
 use Rattle.record_check.specs.Parts.{content_tests}
-use Rattle.sentences.specs.declared.verdict.SentencesVerdict.{SentencesVerdict}
-use Rattle.sentences.specs.declared.verdict.SentencesVerdict.TheVariants.{Written, Refused}
+use Rattle.sentences.specs.Verdict.{SentencesVerdict, Written, Refused}
 use Rattle.sentences.specs.Sentences.{sentences}
 
 module _ (heads seconds statements : List ℕ) (goal : ℕ) (steps : List ℕ) where
@@ -20,15 +19,15 @@ module _ (heads seconds statements : List ℕ) (goal : ℕ) (steps : List ℕ) w
   -- 2 and 4 to 15, 8, and then 16
   abbrev pub arrays_answer : ℕ → ℕ → SentencesVerdict
   arrays_answer room bytes =
-      unless_refused Refused (first_refusal (content_tests heads seconds statements goal steps room))
+      unless_refused (first_refusal (content_tests heads seconds statements goal steps room))
       (pick (ltb bytes (length arrays_text)) (Refused 16 0)
       (Written (length (arrays_signers heads seconds statements steps)) (length arrays_text)))
 
   -- what is then in the lent list and in the lent bytes
   abbrev pub list_written : SentencesVerdict → List ℕ → List ℕ
-  list_written (Written count bytes) before = written before (arrays_signers heads seconds statements steps)
-  list_written (Refused number place) before = before
+  list_written (Ok counts) before = written before (arrays_signers heads seconds statements steps)
+  list_written (Err refusal) before = before
 
   abbrev pub text_written : SentencesVerdict → List ℕ → List ℕ
-  text_written (Written count bytes) before = written before arrays_text
-  text_written (Refused number place) before = before
+  text_written (Ok counts) before = written before arrays_text
+  text_written (Err refusal) before = before

@@ -3,7 +3,7 @@
 ghost use Rattle.std.specs.Prelude.{◌≤◌, ◌≡◌, List, length};
 ghost use Rattle.basics.specs.Limits.{most_formulas};
 ghost use Rattle.table.specs.declared.entry.Entry.{Entry};
-ghost use Rattle.table.specs.Tests.{entries};
+ghost use Rattle.table.specs.Tests.{entries_of};
 ghost use Rattle.steps.specs.Carried.{judgment};
 ghost use Rattle.goals.specs.Kept.{line_at, lines_at};
 ghost use Rattle.sentences.specs.Formula.{goal_text};
@@ -11,13 +11,14 @@ ghost use Rattle.sentences.specs.Sentences.{line_text, sentences_from};
 ghost use Rattle.formula_write.specs.Length.{capped, lengths_of, Holds};
 ghost use Rattle.sentences_write.specs.NamedAt.{named_at};
 
-use crate::name::name_length;
+use crate::name::rule_name;
 use crate::text_line::is_naming;
 use basics::limits::MOST_FORMULAS;
 use basics::word::{lower, upper};
 use formula_write::length::{formula_length, measure_formulas, principal_length, sum};
 use goals::kept::goal_at;
 use steps::goal::Goal;
+use table::lent::Table;
 use text::decimal::decimal_length;
 
 // A blank and the formula of number n, where the rule of the code names one.
@@ -47,71 +48,51 @@ fn line_length(lengths: &[usize], i: usize, word: u16, goal: Goal) -> usize
     let code = upper(word);
     let named = lower(word);
     let mut all = sum(decimal_length(i), 7);
-    all = sum(all, name_length(code));
+    all = sum(all, rule_name(code).len());
     all = sum(all, named_length(lengths, code, named));
     sum(all, goal_length(lengths, goal))
 }
 
 // All lines, where `lengths` has those of the table's formulas and no more.
 fn lines_length(
-    heads: &[u16],
-    seconds: &[u16],
+    table: Table,
     lengths: &[usize],
     steps: &[u16],
     numbers: &[u16],
     affirms: &[u16],
 ) -> usize
-    requires { lengths.now ≡ lengths_of (entries heads.now seconds.now) }
-    ensures { result ≡ capped (length (sentences_from 0 (lines_at (entries heads.now seconds.now) steps.now numbers.now affirms.now))) }
+    requires { lengths.now ≡ lengths_of (entries_of table) }
+    ensures { result ≡ capped (length (sentences_from 0 (lines_at (entries_of table.entry) steps.now numbers.now affirms.now))) }
 {
     let mut all = 0;
-    let mut i = 0;
-    while i < steps.len() && i < numbers.len() && i < affirms.len() {
-        let goal = goal_at(heads, seconds, numbers[i], affirms[i]);
-        all = sum(all, line_length(lengths, i, steps[i], goal));
-        i += 1;
+    for (i, ((&word, &number), &affirms)) in steps.iter().zip(numbers).zip(affirms).enumerate() {
+        let goal = goal_at(table, number, affirms);
+        all = sum(all, line_length(lengths, i, word, goal));
     }
     all
 }
 
-// How many entries a table has.
-fn entry_count(heads: &[u16], seconds: &[u16]) -> usize
-    ensures { result ≡ length (entries heads.now seconds.now) }
-{
-    if heads.len() < seconds.len() {
-        return heads.len();
-    }
-    seconds.len()
-}
-
 // The length of what `fill_lines` writes, where the lengths hold those of the table's formulas.
 fn text_length(
-    heads: &[u16],
-    seconds: &[u16],
+    table: Table,
     lengths: &[usize],
     steps: &[u16],
     numbers: &[u16],
     affirms: &[u16],
 ) -> usize
-    requires { Holds (entries heads.now seconds.now) lengths.now }
-    ensures { result ≡ capped (length (sentences_from 0 (lines_at (entries heads.now seconds.now) steps.now numbers.now affirms.now))) }
+    requires { Holds (entries_of table) lengths.now }
+    ensures { result ≡ capped (length (sentences_from 0 (lines_at (entries_of table.entry) steps.now numbers.now affirms.now))) }
 {
-    let count = entry_count(heads, seconds);
-    lines_length(heads, seconds, &lengths[..count], steps, numbers, affirms)
+    let count = table.heads.len().min(table.seconds.len());
+    lines_length(table, &lengths[..count], steps, numbers, affirms)
 }
 
 // The same, with the formulas measured first.
-pub(crate) fn whole_length(
-    heads: &[u16],
-    seconds: &[u16],
-    steps: &[u16],
-    numbers: &[u16],
-    affirms: &[u16],
-) -> usize
-    requires { length (entries heads.now seconds.now) ≤ most_formulas }
-    ensures { result ≡ capped (length (sentences_from 0 (lines_at (entries heads.now seconds.now) steps.now numbers.now affirms.now))) }
+pub(crate) fn whole_length(table: Table, steps: &[u16], numbers: &[u16], affirms: &[u16]) -> usize
+    requires { length (entries_of table) ≤ most_formulas }
+    ensures { result ≡ capped (length (sentences_from 0 (lines_at (entries_of table.entry) steps.now numbers.now affirms.now))) }
 {
     let mut lengths = [0usize; MOST_FORMULAS];
-    measure_formulas(heads, seconds, &mut lengths);
-    text_length(heads, seconds, &lengths, steps, numbers, affirms)
+    measure_formulas(table, &mut lengths);
+    text_length(table, &lengths, steps, numbers, affirms)
 }

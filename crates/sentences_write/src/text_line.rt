@@ -3,7 +3,7 @@
 ghost use Rattle.std.specs.Prelude.{◌≡◌};
 ghost use Rattle.basics.specs.Written.{written_at};
 ghost use Rattle.text.specs.Fill.{place_after};
-ghost use Rattle.table.specs.Tests.{entries};
+ghost use Rattle.table.specs.Tests.{entries_of};
 ghost use Rattle.steps.specs.Carried.{judgment};
 ghost use Rattle.goals.specs.Kept.{line_at};
 ghost use Rattle.sentences.specs.Formula.{goal_text};
@@ -11,89 +11,69 @@ ghost use Rattle.sentences.specs.Sentences.{line_text};
 ghost use Rattle.steps.specs.Naming.{is_naming};
 ghost use Rattle.sentences_write.specs.NamedAt.{named_at};
 
-use crate::name::fill_name;
+use crate::name::rule_name;
 use basics::word::{lower, upper};
 use formula_write::formula::{fill_formula, fill_principal};
 use steps::goal::Goal;
+use table::lent::Table;
 use text::decimal::fill_decimal;
 use text::fill::fill;
 
-// Whether the rule of a code names a formula.
+// Whether the rule of a code names a formula: init, implies left, false left, and left, or left and says left do. (The
+// code is a number, as in `rule_name`.)
 #[tactic(auto, unfolding(steps::specs::Naming::is_naming))]
 pub(crate) fn is_naming(code: u16) -> bool
     ensures { result ≡ is_naming code }
 {
-    match code {
-        0 => true,
-        1 => false,
-        2 => false,
-        3 => true,
-        4 => true,
-        5 => false,
-        6 => true,
-        7 => false,
-        8 => false,
-        9 => true,
-        10 => false,
-        11 => true,
-        _ => false,
-    }
+    matches!(code, 0 | 3 | 4 | 6 | 9 | 11)
 }
 
 // A blank and the formula of number n, where the rule of the code names one.
-fn fill_named(
-    heads: &[u16],
-    seconds: &[u16],
-    code: u16,
-    n: u16,
-    text: &mut [u8],
-    at: usize,
-) -> usize
-    ensures text_after { text.new ≡ written_at text.old at (named_at (entries heads.now seconds.now) code n) }
-    ensures value { result ≡ place_after text.old at (named_at (entries heads.now seconds.now) code n) }
+fn fill_named(table: Table, code: u16, n: u16, text: &mut [u8], at: usize) -> usize
+    ensures text_after { text.new ≡ written_at text.old at (named_at (entries_of table.entry) code n) }
+    ensures value { result ≡ place_after text.old at (named_at (entries_of table.entry) code n) }
 {
     if is_naming(code) {
         let end = fill(text, at, b" ");
-        return fill_formula(heads, seconds, n, text, end);
+        return fill_formula(&table, n, text, end);
     }
     at
 }
 
 // A truth's formula, or "p7 affirms a0".
-fn fill_goal(heads: &[u16], seconds: &[u16], goal: Goal, text: &mut [u8], at: usize) -> usize
-    ensures text_after { text.new ≡ written_at text.old at (goal_text (judgment (entries heads.now seconds.now) goal)) }
-    ensures value { result ≡ place_after text.old at (goal_text (judgment (entries heads.now seconds.now) goal)) }
+fn fill_goal(table: Table, goal: Goal, text: &mut [u8], at: usize) -> usize
+    ensures text_after { text.new ≡ written_at text.old at (goal_text (judgment (entries_of table.entry) goal)) }
+    ensures value { result ≡ place_after text.old at (goal_text (judgment (entries_of table.entry) goal)) }
 {
     match goal {
-        Goal::True(f) => fill_formula(heads, seconds, f.0, text, at),
+        Goal::True(f) => fill_formula(&table, f.0, text, at),
         Goal::Affirms(k, f) => {
             let mut end = fill_principal(k, text, at);
             end = fill(text, end, b" affirms ");
-            fill_formula(heads, seconds, f.0, text, end)
+            fill_formula(&table, f.0, text, end)
         }
     }
 }
 
 // The line of step i, for this word at this goal.
 pub(crate) fn fill_line(
-    heads: &[u16],
-    seconds: &[u16],
+    table: Table,
     i: usize,
     word: u16,
     goal: Goal,
     text: &mut [u8],
     at: usize,
 ) -> usize
-    ensures text_after { text.new ≡ written_at text.old at (line_text i (line_at (entries heads.now seconds.now) word goal)) }
-    ensures value { result ≡ place_after text.old at (line_text i (line_at (entries heads.now seconds.now) word goal)) }
+    ensures text_after { text.new ≡ written_at text.old at (line_text i (line_at (entries_of table.entry) word goal)) }
+    ensures value { result ≡ place_after text.old at (line_text i (line_at (entries_of table.entry) word goal)) }
 {
     let code = upper(word);
     let named = lower(word);
     let mut end = fill_decimal(text, at, i);
     end = fill(text, end, b" ");
-    end = fill_name(text, end, code);
-    end = fill_named(heads, seconds, code, named, text, end);
+    end = fill(text, end, rule_name(code));
+    end = fill_named(table, code, named, text, end);
     end = fill(text, end, b" for ");
-    end = fill_goal(heads, seconds, goal, text, end);
+    end = fill_goal(table, goal, text, end);
     fill(text, end, b"\n")
 }

@@ -13,6 +13,7 @@ use crate::collect::write_signers;
 use basics::limits::MOST_FORMULAS;
 use basics::word::{lower, upper};
 use marks::set_flag;
+use table::lent::Table;
 
 // | 11 | says left |
 const SAYS_LEFT: u16 = 11;
@@ -34,54 +35,49 @@ fn mark_word(flags: &mut [bool], word: u16)
 fn mark_says_lefts(flags: &mut [bool], steps: &[u16])
     ensures { flags.new ≡ set_all flags.old (named_numbers is_says_left steps.now) }
 {
-    let mut i = 0;
-    while i < steps.len() {
-        mark_word(flags, steps[i]);
-        i += 1;
+    for &word in steps {
+        mark_word(flags, word);
     }
 }
 
 // Writes the signers, with flags for all formulas of the table, or for all that a word can name. None is set before.
 fn list_marked_signers(
-    heads: &[u16],
-    seconds: &[u16],
+    table: Table,
     statements: &[u16],
     steps: &[u16],
     flags: &mut [bool],
     list: &mut [u16],
 ) -> usize
     requires flags_value { flags.old ≡ replicate (length flags.old) false }
-    requires most_formulas_in_bounds { min (length heads.now) most_formulas ≤ length flags.old }
-    ensures value { result ≡ length (arrays_signers heads.now seconds.now statements.now steps.now) }
-    ensures list_after { list.new ≡ written list.old (arrays_signers heads.now seconds.now statements.now steps.now) }
+    requires most_formulas_in_bounds { min (length table.heads.now) most_formulas ≤ length flags.old }
+    ensures value { result
+        ≡ length (arrays_signers table.entry.heads.now table.entry.seconds.now statements.now steps.now) }
+    ensures list_after { list.new
+        ≡ written list.old (arrays_signers table.entry.heads.now table.entry.seconds.now statements.now steps.now) }
 {
     mark_says_lefts(flags, steps);
-    write_signers(heads, seconds, statements, flags, list)
+    write_signers(table, statements, flags, list)
 }
 
 // Writes the signers, rising, from the start of a list, as far as the list goes, and answers how many they are.
-pub fn list_signers(
-    heads: &[u16],
-    seconds: &[u16],
-    statements: &[u16],
-    steps: &[u16],
-    list: &mut [u16],
-) -> usize
-    ensures value { result ≡ length (arrays_signers heads.now seconds.now statements.now steps.now) }
-    ensures list_after { list.new ≡ written list.old (arrays_signers heads.now seconds.now statements.now steps.now) }
+pub fn list_signers(table: Table, statements: &[u16], steps: &[u16], list: &mut [u16]) -> usize
+    ensures value { result
+        ≡ length (arrays_signers table.entry.heads.now table.entry.seconds.now statements.now steps.now) }
+    ensures list_after { list.new
+        ≡ written list.old (arrays_signers table.entry.heads.now table.entry.seconds.now statements.now steps.now) }
 {
-    if heads.len() <= FEW_FORMULAS {
+    if table.heads.len() <= FEW_FORMULAS {
         let mut flags = [false; FEW_FORMULAS];
-        return list_marked_signers(heads, seconds, statements, steps, &mut flags, list);
+        return list_marked_signers(table, statements, steps, &mut flags, list);
     }
     let mut flags = [false; MOST_FORMULAS];
-    list_marked_signers(heads, seconds, statements, steps, &mut flags, list)
+    list_marked_signers(table, statements, steps, &mut flags, list)
 }
 
 // How many signers there are.
-pub fn count_signers(heads: &[u16], seconds: &[u16], statements: &[u16], steps: &[u16]) -> usize
-    ensures { result ≡ length (arrays_signers heads.now seconds.now statements.now steps.now) }
+pub fn count_signers(table: Table, statements: &[u16], steps: &[u16]) -> usize
+    ensures { result ≡ length (arrays_signers table.entry.heads.now table.entry.seconds.now statements.now steps.now) }
 {
     let mut none = [0u16; 0];
-    list_signers(heads, seconds, statements, steps, &mut none)
+    list_signers(table, statements, steps, &mut none)
 }

@@ -9,6 +9,7 @@ use mathlib.Core.List.{List, [], ◌∷◌, ◌++◌, map, Forall₂}
 use lib.ListN.{length, get_or}
 use lib.Dec.{eqb, ltb, leb}
 use borrow.Author.Tests.{ltb-true}
+use Rattle.std.specs.Prelude.{Err}
 use Rattle.basics.specs.Choice.{pick, both}
 use Rattle.basics.specs.Membership.{holds}
 use Rattle.basics.specs.Word.{radix, upper, lower}
@@ -23,8 +24,7 @@ use Rattle.steps.specs.declared.goal.Goal.TheVariants.{True, Affirms}
 use Rattle.steps.specs.declared.opened.Premise.{Premise}
 use Rattle.steps.specs.declared.opened.Opened.{Opened}
 use Rattle.steps.specs.declared.opened.Opened.TheVariants as Opening
-use Rattle.steps.specs.declared.verdict.WalkVerdict.{WalkVerdict}
-use Rattle.steps.specs.declared.verdict.WalkVerdict.TheVariants.{Closed, Refused}
+use Rattle.steps.specs.Verdict.{WalkVerdict, Closed, Refused}
 use Rattle.steps.specs.Obligation.{Obligation, added, under}
 use Rattle.steps.specs.Needs.{truth, affirmation, by_kind}
 use Rattle.steps.specs.Rules.{served_by}
@@ -182,7 +182,7 @@ module _ (speaks : ℕ → ℕ → Bool) (es : List Entry) where
 -- A refusal is one of 9 to `most`, and no place is past the last.
 abbrev Within : ℕ → ℕ → WalkVerdict → Type 0
 Within most last (Closed q) = q ≤ last
-Within most last (Refused number q) = (9 ≤ number) × (number ≤ most) × (q ≤ last)
+Within most last (Err r) = (9 ≤ r.number) × (r.number ≤ most) × (r.place ≤ last)
 
 -- what follows a step at p
 after_within : {x : Opened} → Openable x → (p last : ℕ) → p ≤ last → (next : List Premise → WalkVerdict)
@@ -199,7 +199,7 @@ after_within two p last l next w = w _
 -- test 15
 all_used_within : (n : ℕ) (v : WalkVerdict) → Within 14 n v → Within 15 n (all_used n v)
 all_used_within n (Closed p) w = pick_cases (Within 15 n) (eqb p n) (λ t. w) (λ t. omega arith)
-all_used_within n (Refused number p) w = omega arith
+all_used_within n (Err r) w = omega arith
 
 module _ (speaks : ℕ → ℕ → Bool) (limit : ℕ) (es : List Entry) where
   walk_within : (ws : List ℕ) (p last : ℕ) → p + length ws ≤ last → (os : List Obligation) → Within 14 last (walk speaks limit es ws p os)

@@ -11,7 +11,7 @@ use Rattle.basics.specs.Membership.{◌∈◌}
 use Rattle.basics.specs.Limits.{most_depth}
 use Rattle.logic.specs.Principals.{Relation, Decides}
 use Rattle.table.specs.Tests.{entries}
-use Rattle.steps.specs.declared.verdict.WalkVerdict.TheVariants.{Closed}
+use Rattle.steps.specs.Verdict.{Closed}
 use Rattle.steps.specs.Obligation.{Obligation, obligation, obligations}
 use Rattle.steps.specs.Carried.{InTable}
 use Rattle.steps.specs.Answer.{ClosedAreDerivations, ClosedIsDerivation}

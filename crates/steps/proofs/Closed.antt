@@ -7,13 +7,13 @@ use mathlib.Core.List.{List, [], ◌∷◌, ◌++◌, map}
 use lib.ListN.{length}
 use lib.Dec.{eqb}
 use borrow.Author.Tests.{eqb-true}
+use Rattle.std.specs.Prelude.{Err}
 use Rattle.basics.proofs.Choice.{pick_cases}
 use Rattle.table.specs.declared.entry.Entry.{Entry}
 use Rattle.steps.specs.declared.opened.Premise.{Premise}
 use Rattle.steps.specs.declared.opened.Opened as O
 use Rattle.steps.specs.declared.opened.Opened.TheVariants as Opening
-use Rattle.steps.specs.declared.verdict.WalkVerdict.{WalkVerdict}
-use Rattle.steps.specs.declared.verdict.WalkVerdict.TheVariants.{Closed, Refused}
+use Rattle.steps.specs.Verdict.{WalkVerdict, Closed, Refused}
 use Rattle.steps.specs.Obligation.{Obligation, under}
 use Rattle.steps.specs.Applies.{Takes}
 use Rattle.steps.specs.Step.{step}
@@ -40,7 +40,7 @@ all_used_closed n q (Closed p) =
     pick_cases (λ v. v ≡ Closed q → (Closed p ≡ Closed n) × (q ≡ n)) (eqb p n)
     (λ t e. let f : p ≡ q = cc in (ap Closed (eqb-true p n t), sym f ∙ eqb-true p n t))
     (λ t e. absurd (refused_not_closed e))
-all_used_closed n q (Refused number p) = λ e. absurd (refused_not_closed e)
+all_used_closed n q (Err r) = λ e. absurd (refused_not_closed e)
 
 module _ (speaks : ℕ → ℕ → Bool) (limit : ℕ) (es : List Entry) where
   -- A walk that closes takes its first obligation to premises, and closes with them in its place.

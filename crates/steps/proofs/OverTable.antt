@@ -4,7 +4,7 @@ use native.Mathlib.Omega.{arith}
 use mathlib.Core.Bool.{Bool}
 use mathlib.Core.Path.{◌≡◌}
 use mathlib.Core.List.{List}
-use Rattle.basics.specs.declared.tested.Tested.TheVariants.{Passed}
+use Rattle.basics.specs.Tested.{Passed}
 use Rattle.basics.specs.Limits.{most_depth}
 use Rattle.logic.specs.Principals.{Relation, Decides}
 use Rattle.table.specs.Tests.{entries, table_tests}

@@ -9,12 +9,12 @@ use mathlib.Core.Option.{some, none-ne-some}
 use mathlib.Core.List.{List, [], ◌∷◌, ◌++◌, append_assoc, map}
 use lib.ListN.{length, get_or, drop, length-append, drop_of_length-le}
 use lib.Seq.{drop-cons, drop-nil, drop-drop}
+use Rattle.std.specs.Prelude.{Err}
 use Rattle.table.specs.declared.entry.Entry.{Entry}
 use Rattle.steps.specs.declared.opened.Premise.{Premise}
 use Rattle.steps.specs.declared.opened.Opened as O
 use Rattle.steps.specs.declared.opened.Opened.TheVariants as Opening
-use Rattle.steps.specs.declared.verdict.WalkVerdict.{WalkVerdict}
-use Rattle.steps.specs.declared.verdict.WalkVerdict.TheVariants.{Closed, Refused}
+use Rattle.steps.specs.Verdict.{WalkVerdict, Closed, Refused}
 use Rattle.steps.specs.Obligation.{Obligation, under}
 use Rattle.steps.specs.Step.{step}
 use Rattle.steps.specs.Run.{after, walk}
@@ -51,7 +51,7 @@ refused_at p number = Refused number p
 -- Two ways to go on from a verdict are one where they agree at its place.
 then_same : (v : WalkVerdict) (next other : ℕ → WalkVerdict) → ((q : ℕ) → v ≡ Closed q → next q ≡ other q) → and_then v next ≡ and_then v other
 then_same (Closed q) next other same = same q refl
-then_same (Refused n p) next other same = refl
+then_same (Err r) next other same = refl
 
 module _ (speaks : ℕ → ℕ → Bool) (limit : ℕ) (es : List Entry) where
   -- what follows a step of o, with these premises

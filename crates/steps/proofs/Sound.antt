@@ -17,7 +17,7 @@ use Rattle.table.specs.declared.entry.Entry.{Entry}
 use Rattle.table.specs.Spelled.{spell, spell_all}
 use Rattle.table.specs.Laws.{Ordered, Distinct}
 use Rattle.steps.specs.declared.opened.Premise.{Premise}
-use Rattle.steps.specs.declared.verdict.WalkVerdict.TheVariants.{Closed}
+use Rattle.steps.specs.Verdict.{Closed}
 use Rattle.steps.specs.Obligation.{Obligation, added, under}
 use Rattle.steps.specs.Run.{walk}
 use Rattle.steps.specs.Carried.{judgment, Carried}

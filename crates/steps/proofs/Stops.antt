@@ -11,11 +11,11 @@ use lib.Dec.{eqb}
 use borrow.Author.Tests.{ne_eqb, eqb-false}
 use Rattle.basics.proofs.Choice.{pick_cases}
 use Rattle.table.specs.declared.entry.Entry.{Entry}
+use Rattle.basics.proofs.Refusals.{same_refusal}
 use Rattle.steps.specs.declared.opened.Premise.{Premise}
 use Rattle.steps.specs.declared.opened.Opened as O
 use Rattle.steps.specs.declared.opened.Opened.TheVariants as Opening
-use Rattle.steps.specs.declared.verdict.WalkVerdict.{WalkVerdict}
-use Rattle.steps.specs.declared.verdict.WalkVerdict.TheVariants.{Closed, Refused}
+use Rattle.steps.specs.Verdict.{WalkVerdict, Closed, Refused}
 use Rattle.steps.specs.Obligation.{Obligation, under}
 use Rattle.steps.specs.Applies.{Takes}
 use Rattle.steps.specs.Step.{step}
@@ -48,8 +48,7 @@ module _ (speaks : ℕ → ℕ → Bool) (limit : ℕ) (es : List Entry) where
       → OfPremises (Takes speaks es limit w o) x
       → all_used n (after x (refused_at k) next) ≡ Refused number q → StopFrom k (w ∷ ws) (o ∷ os) number q
   after_stops w ws k o os n number q (Opening.Refused m) next s h t e =
-      let f : m ≡ number = cc in
-      let g : k ≡ q = cc in (0, omega arith, refused o os (omega arith) refl ((step_refused speaks limit es w o number).0 (s ∙ ap Opening.Refused f)))
+      let (f, g) = same_refusal e in (0, omega arith, refused o os (omega arith) refl ((step_refused speaks limit es w o number).0 (s ∙ ap Opening.Refused f)))
   after_stops w ws k o os n number q Opening.Closed next s h t e = further k _ t (h _ e)
   after_stops w ws k o os n number q (Opening.One a) next s h t e = further k _ t (h _ e)
   after_stops w ws k o os n number q (Opening.Two a b) next s h t e = further k _ t (h _ e)
@@ -61,11 +60,11 @@ module _ (speaks : ℕ → ℕ → Bool) (limit : ℕ) (es : List Entry) where
       pick_cases (λ v. v ≡ Refused number q → StopFrom k [] [] number q) (eqb k n)
       (λ t e. absurd (refused_not_closed (sym e)))
       (λ t e. absurd (eqb-false k n t (omega arith)))
-  stops [] k n l (o ∷ os) number q = λ e. let f : number ≡ 9 = cc in let g : k ≡ q = cc in (0, omega arith, ended o os f (omega arith) refl)
+  stops [] k n l (o ∷ os) number q = λ e. let (f, g) = same_refusal e in (0, omega arith, ended o os (sym f) (omega arith) refl)
   stops (w ∷ ws) k n l [] number q =
       pick_cases (λ v. v ≡ Refused number q → StopFrom k (w ∷ ws) [] number q) (eqb k n)
       (λ t e. absurd (refused_not_closed (sym e)))
-      (λ t e. let f : number ≡ 15 = cc in let g : k ≡ q = cc in (0, omega arith, left_over f (omega arith) refl))
+      (λ t e. let (f, g) = same_refusal e in (0, omega arith, left_over (sym f) (omega arith) refl))
   stops (w ∷ ws) k n l (o ∷ os) number q =
       after_stops w ws k o os n number q (step speaks es limit w o) (λ ps. walk speaks limit es ws (suc k) (map (under o) ps ++ os)) refl
       (λ ps. stops ws (suc k) n (omega arith) (map (under o) ps ++ os) number q)

@@ -10,8 +10,7 @@ use lib.ListN.{length, get_or}
 use borrow.Author.Tests.{le-leb, lt-ltb}
 use Rattle.basics.specs.Membership.{◌∈◌}
 use Rattle.basics.proofs.Membership.{holds_member}
-use Rattle.basics.specs.Word.{word}
-use Rattle.basics.specs.Word.{radix}
+use Rattle.basics.specs.Word.{word, radix}
 use Rattle.basics.proofs.Words.{both_of_word}
 use Rattle.logic.specs.Proposition.{Proposition}
 use Rattle.logic.specs.Judgment.{Judgment}

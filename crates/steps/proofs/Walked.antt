@@ -5,34 +5,37 @@ use mathlib.Core.Path.{◌≡◌, refl, sym, ap, ◌∙◌}
 use mathlib.Core.Logic.{◌↔◌, ◌⊎◌, inl, ⊎_elim}
 use mathlib.Core.List.{List, [], ◌∷◌}
 use borrow.Author.Tests.{eq-eqb, ne_eqb}
-use Rattle.basics.specs.declared.place.Place.TheVariants.{Nowhere}
-use Rattle.basics.specs.declared.tested.Tested.TheVariants as Outcome
+use Rattle.std.specs.Prelude.{Err}
+use Rattle.basics.specs.Place.{At, Nowhere}
+use Rattle.basics.specs.Tested as Outcome
 use Rattle.basics.specs.Choice.{pick}
 use Rattle.basics.specs.Membership.{◌∈◌}
 use Rattle.basics.specs.Refusals.{Test, first_refusal}
 use Rattle.basics.proofs.Asked.{somewhere}
-use Rattle.basics.proofs.Refusals.{applies, goes_on, none_left}
+use Rattle.basics.proofs.Refusals.{same_refusal, refusal_same, applies, goes_on, none_left}
 use Rattle.basics.proofs.Order.{OneApplies, Follows, row, in_row, one_of}
-use Rattle.steps.specs.declared.verdict.WalkVerdict.{WalkVerdict}
-use Rattle.steps.specs.declared.verdict.WalkVerdict.TheVariants.{Closed, Refused}
+use Rattle.steps.specs.Verdict.{WalkVerdict, Closed, Refused}
 use Rattle.steps.specs.Run.{all_used, walked}
 use Rattle.steps.proofs.Closed.{refused_not_closed}
 
 -- It applies where the walk refuses,
 pub walked_applies : (v : WalkVerdict) (number p : ℕ) → OneApplies (walked v ∷ []) number p ↔ (v ≡ Refused number p)
 walked_applies (Closed q) number p = (⊎_elim (λ (_, e). absurd (somewhere (sym e))) absurd, λ e. absurd (refused_not_closed (sym e)))
-walked_applies (Refused m q) number p = (⊎_elim (λ (e, f). cc) absurd, λ e. inl (cc, cc))
+walked_applies (Err r) number p = (
+  ⊎_elim (λ (e, f). refusal_same e cc) absurd,
+  λ e. let (number_is, place_is) = same_refusal e in inl (number_is, ap At place_is),
+)
 
 -- and nowhere where it closes.
 pub walked_nowhere : (v : WalkVerdict) → ((walked v).place ≡ Nowhere) ↔ ((q : ℕ) × (v ≡ Closed q))
 walked_nowhere (Closed q) = (λ e. (q, refl), λ h. refl)
-walked_nowhere (Refused m p) = (λ e. absurd (somewhere e), λ (q, e). absurd (refused_not_closed e))
+walked_nowhere (Err r) = (λ e. absurd (somewhere e), λ (q, e). absurd (refused_not_closed e))
 
 -- A walk that refuses by 9 to 15 follows an order in which these stand one after the other, before tests that follow
 -- the rest of it.
 walked_number : (v : WalkVerdict) → ((n p : ℕ) → v ≡ Refused n p → (9 ≤ n) × (n ≤ 15)) → (walked v).number ∈ row 9 7
 walked_number (Closed q) range = in_row 9 7 15 (omega arith) (omega arith)
-walked_number (Refused n p) range = let (l, m) = range n p refl in in_row 9 7 n l (omega arith)
+walked_number (Err r) range = let (l, m) = range r.number r.place refl in in_row 9 7 r.number l (omega arith)
 
 pub walked_follows : (v : WalkVerdict) → ((n p : ℕ) → v ≡ Refused n p → (9 ≤ n) × (n ≤ 15))
     → (order : List ℕ) (ts : List Test) → Follows order ts

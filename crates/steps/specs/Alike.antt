@@ -4,7 +4,7 @@
 use Rattle.std.specs.Prelude.{ℕ, ◌≤◌, Bool, ◌≡◌, ◌↔◌, List, [], ◌∷◌, length}
 use Rattle.basics.specs.Membership.{◌∈◌}
 use Rattle.table.specs.declared.entry.Entry.{Entry}
-use Rattle.steps.specs.declared.verdict.WalkVerdict.TheVariants.{Refused}
+use Rattle.steps.specs.Verdict.{Refused}
 use Rattle.steps.specs.Obligation.{Obligation}
 use Rattle.steps.specs.Run.{run}
 

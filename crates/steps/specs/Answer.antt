@@ -4,12 +4,11 @@
 -- proofs/Answer.antt. Assumes nothing.
 use Rattle.std.specs.Prelude.{ℕ, ◌≤◌, Bool, ◌≡◌, ◌↔◌, List, [], ◌∷◌, length, take}
 use Rattle.basics.specs.Membership.{◌∈◌}
-use Rattle.basics.specs.declared.tested.Tested.TheVariants.{Passed}
+use Rattle.basics.specs.Tested.{Passed}
 use Rattle.basics.specs.Limits.{most_depth}
 use Rattle.logic.specs.Principals.{Relation}
 use Rattle.table.specs.Tests.{entries, table_tests}
-use Rattle.steps.specs.declared.verdict.WalkVerdict.{WalkVerdict}
-use Rattle.steps.specs.declared.verdict.WalkVerdict.TheVariants.{Closed}
+use Rattle.steps.specs.Verdict.{WalkVerdict, Closed}
 use Rattle.steps.specs.Obligation.{obligation, obligations}
 use Rattle.steps.specs.Run.{walk}
 use Rattle.steps.specs.Carried.{Carried, InTable}

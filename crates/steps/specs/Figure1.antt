@@ -5,7 +5,7 @@ use Rattle.basics.specs.Limits.{most_depth}
 use Rattle.logic.specs.Figure1.{Same}
 use Rattle.table.specs.declared.entry.Entry.{Entry}
 use Rattle.steps.specs.declared.opened.Opened.{Opened}
-use Rattle.steps.specs.declared.verdict.WalkVerdict.{WalkVerdict}
+use Rattle.steps.specs.Verdict.{WalkVerdict}
 use Rattle.steps.specs.Obligation.{Obligation}
 use Rattle.steps.specs.Step as Every
 use Rattle.steps.specs.Run as AnyRun

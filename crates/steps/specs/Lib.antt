@@ -2,6 +2,7 @@
 -- the machine closes on exactly these, and the trace of a run, for any test on principals and any limit on depth; then
 -- 01's own (Figure1), and samples. Definitions, then the statements of theorems, to be read in this order. The proofs
 -- are in proofs/.
+pub mod Verdict
 pub mod Obligation
 pub mod Applies
 pub mod Reasons

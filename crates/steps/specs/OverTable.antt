@@ -2,7 +2,7 @@
 -- obligations whose numbers are below F (6 and 7), at 01's depth. Proved in proofs/OverTable.antt. Assumes nothing.
 use Rattle.std.specs.Prelude.{ℕ, Bool, ◌≡◌, ◌↔◌, List}
 use Rattle.basics.specs.Membership.{◌∈◌}
-use Rattle.basics.specs.declared.tested.Tested.TheVariants.{Passed}
+use Rattle.basics.specs.Tested.{Passed}
 use Rattle.basics.specs.Limits.{most_depth}
 use Rattle.logic.specs.Principals.{Relation}
 use Rattle.table.specs.Tests.{entries, table_tests}

@@ -1,21 +1,20 @@
 -- The walk part by part: what the code of a walk, and a check of one proof after another, lean on. Proved in
 -- proofs/Parts.antt and Prefix.antt. Assumes nothing.
-use Rattle.std.specs.Prelude.{ℕ, ◌+◌, ◌≤◌, Bool, ◌≡◌, ◌↔◌, List, ◌++◌, length, take, drop}
+use Rattle.std.specs.Prelude.{ℕ, ◌+◌, ◌≤◌, Bool, ◌≡◌, ◌↔◌, List, ◌++◌, length, take, drop, Err}
 use Rattle.table.specs.declared.entry.Entry.{Entry}
-use Rattle.steps.specs.declared.verdict.WalkVerdict.{WalkVerdict}
-use Rattle.steps.specs.declared.verdict.WalkVerdict.TheVariants.{Closed, Refused}
+use Rattle.steps.specs.Verdict.{WalkVerdict, Closed, Refused}
 use Rattle.steps.specs.Obligation.{Obligation}
 use Rattle.steps.specs.Run.{walk, run}
 
 -- closed at a place: go on from there; a refusal stands
 abbrev pub and_then : WalkVerdict → (ℕ → WalkVerdict) → WalkVerdict
 and_then (Closed q) next = next q
-and_then (Refused number p) next = Refused number p
+and_then (Err refusal) next = Err refusal
 
 -- the same verdict, k places further on
 abbrev pub later : ℕ → WalkVerdict → WalkVerdict
 later k (Closed q) = Closed (q + k)
-later k (Refused number p) = Refused number (p + k)
+later k (Err refusal) = Refused refusal.number (refusal.place + k)
 
 module _ (speaks : ℕ → ℕ → Bool) (limit : ℕ) (es : List Entry) where
   -- the walk through a file's step words from place p on

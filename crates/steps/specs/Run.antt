@@ -1,14 +1,13 @@
 -- The machine: step words against what is still to be proved, the next obligation first. Assumes nothing.
-use Rattle.std.specs.Prelude.{ℕ, suc, Bool, List, [], ◌∷◌, ◌++◌, map, length, eqb}
-use Rattle.basics.specs.declared.place.Place.TheVariants.{At, Nowhere}
+use Rattle.std.specs.Prelude.{ℕ, suc, Bool, List, [], ◌∷◌, ◌++◌, map, length, eqb, Err}
+use Rattle.basics.specs.Place.{At, Nowhere}
 use Rattle.basics.specs.Choice.{pick}
 use Rattle.basics.specs.Refusals.{Test, test}
 use Rattle.table.specs.declared.entry.Entry.{Entry}
 use Rattle.steps.specs.declared.opened.Premise.{Premise}
 use Rattle.steps.specs.declared.opened.Opened as O
 use Rattle.steps.specs.declared.opened.Opened.TheVariants as Opening
-use Rattle.steps.specs.declared.verdict.WalkVerdict.{WalkVerdict}
-use Rattle.steps.specs.declared.verdict.WalkVerdict.TheVariants.{Closed, Refused}
+use Rattle.steps.specs.Verdict.{WalkVerdict, Closed, Refused}
 use Rattle.steps.specs.Obligation.{Obligation, under}
 use Rattle.steps.specs.Step.{step}
 
@@ -22,12 +21,12 @@ after (Opening.Two a b) refused next = next (a ∷ b ∷ [])
 -- "15. The proof is closed and words remain (place: the first of them)": closed at p, of n words
 abbrev pub all_used : ℕ → WalkVerdict → WalkVerdict
 all_used n (Closed p) = pick (eqb p n) (Closed p) (Refused 15 p)
-all_used n (Refused number p) = Refused number p
+all_used n (Err refusal) = Err refusal
 
 -- What a walk comes to as the test that it makes, in a file's list of tests: 9 to 15. Closed, it applies nowhere.
 abbrev pub walked : WalkVerdict → Test
 walked (Closed p) = test 15 Nowhere
-walked (Refused number p) = test number (At p)
+walked (Err refusal) = test refusal.number (At refusal.place)
 
 module _ (speaks : ℕ → ℕ → Bool) (limit : ℕ) (es : List Entry) where
   -- "Tests 9 to 14 run in this order at each step, steps in file order": from place p, closed with the place after the

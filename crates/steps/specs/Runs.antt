@@ -6,7 +6,7 @@ use Rattle.basics.specs.Limits.{most_formulas}
 use Rattle.logic.specs.Principals.{Relation}
 use Rattle.table.specs.declared.entry.Entry.{Entry}
 use Rattle.table.specs.Laws.{Ordered, Distinct}
-use Rattle.steps.specs.declared.verdict.WalkVerdict.TheVariants.{Closed}
+use Rattle.steps.specs.Verdict.{Closed}
 use Rattle.steps.specs.Obligation.{Obligation}
 use Rattle.steps.specs.Run.{run}
 use Rattle.steps.specs.Carried.{Carried, InTable}

@@ -7,8 +7,7 @@ use Rattle.logic.specs.Proposition.{atom, ◌says◌}
 use Rattle.logic.specs.Judgment.{truth, ◌affirms◌}
 use Rattle.table.specs.declared.entry.Entry.{Entry}
 use Rattle.table.specs.Tests.{entries}
-use Rattle.steps.specs.declared.verdict.WalkVerdict.{WalkVerdict}
-use Rattle.steps.specs.declared.verdict.WalkVerdict.TheVariants.{Closed, Refused}
+use Rattle.steps.specs.Verdict.{WalkVerdict, Closed, Refused}
 use Rattle.steps.specs.Obligation.{Obligation, obligation}
 use Rattle.steps.specs.Trace.{Line, line}
 use Rattle.steps.specs.Figure1.{run, trace}

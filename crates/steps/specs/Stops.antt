@@ -4,7 +4,7 @@
 use Rattle.std.specs.Prelude.{ℕ, ◌<◌, Bool, ◌≡◌, ◌↔◌, List, [], ◌∷◌, ◌++◌, map, length, get_or, take}
 use Rattle.table.specs.declared.entry.Entry.{Entry}
 use Rattle.steps.specs.declared.opened.Premise.{Premise}
-use Rattle.steps.specs.declared.verdict.WalkVerdict.TheVariants.{Refused}
+use Rattle.steps.specs.Verdict.{Refused}
 use Rattle.steps.specs.Obligation.{Obligation, under}
 use Rattle.steps.specs.Applies.{Takes}
 use Rattle.steps.specs.Reasons.{FirstAt}

@@ -17,7 +17,7 @@ pub struct Premise {
     pub added: Added,
 }
 
-// Refused with a number, or the premises in their order.
+// Refused with a number, 01's, as in `Refusal`, or the premises in their order.
 #[derive(Clone, Copy)]
 pub enum Opened {
     Refused(u8),

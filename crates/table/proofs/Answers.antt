@@ -6,8 +6,8 @@ use mathlib.Core.Path.{◌≡◌, ap, ◌∙◌}
 use lib.ListN.{length}
 use lib.Dec.{eqb, leb}
 use borrow.Author.Tests.{eqb-true, leb-true}
-use Rattle.basics.specs.declared.place.Place.TheVariants.{At, Nowhere}
-use Rattle.basics.specs.declared.tested.Tested.TheVariants.{Passed, Refused}
+use Rattle.basics.specs.Place.{At, Nowhere}
+use Rattle.basics.specs.Tested.{Passed, Refused}
 use Rattle.basics.specs.Choice.{both}
 use Rattle.basics.specs.Limits.{most_formulas}
 use Rattle.basics.specs.Refusals.{Test, test, first_refusal}

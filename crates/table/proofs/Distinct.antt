@@ -6,7 +6,7 @@ use mathlib.Core.Path.{◌≡◌, sym, ◌∙◌}
 use mathlib.Core.List.{List}
 use lib.ListN.{length}
 use borrow.Author.Tests.{eq-eqb}
-use Rattle.basics.specs.declared.place.Place.TheVariants.{Nowhere}
+use Rattle.basics.specs.Place.{Nowhere}
 use Rattle.basics.specs.First.{first, found}
 use Rattle.basics.proofs.Choice.{both_true}
 use Rattle.basics.proofs.First.{no_place, not_found}

@@ -10,7 +10,7 @@ use mathlib.Core.List.{List}
 use lib.ListN.{length, get_or}
 use lib.Dec.{eqb, ltb}
 use borrow.Author.Tests.{eqb-true, eqb-false, ltb-false, le-ltb, not-true}
-use Rattle.basics.specs.declared.place.Place.TheVariants.{At}
+use Rattle.basics.specs.Place.{At}
 use Rattle.basics.specs.Choice.{both}
 use Rattle.basics.specs.First.{first, found, IsFirst}
 use Rattle.basics.specs.Word.{upper, lower}
@@ -22,9 +22,7 @@ use Rattle.table.specs.declared.entry.Entry.{Entry}
 use Rattle.table.specs.declared.entry.Entry.TheVariants.{IllFormed}
 use Rattle.table.specs.Entry.{kinds, entry}
 use Rattle.table.specs.Tests.{entries, entry_at, well_formed_at, same, wrong_entry, repeated_entry, entry_tests}
-use Rattle.table.specs.Reasons.{WrongEntry, no_kind, atom_second, false_first, false_second, WrongExactly}
-use Rattle.table.specs.Reasons.{first_not_lower, second_not_lower, Repeats, RepeatsExactly}
-use Rattle.table.specs.Reasons.{EntryReason, wrong_entry as wrong_entry_reason, repeated_entry as repeated_entry_reason}
+use Rattle.table.specs.Reasons.{WrongEntry, no_kind, atom_second, false_first, false_second, WrongExactly, first_not_lower, second_not_lower, Repeats, RepeatsExactly, EntryReason, wrong_entry as wrong_entry_reason, repeated_entry as repeated_entry_reason}
 use Rattle.table.proofs.Entries.{length_entries, entry_at_lem}
 
 -- ---- 4, of an entry

@@ -37,12 +37,6 @@ module _ {A : Type 0} (f : Proposition → A) where
     long : length (values_to es i) ≡ i
     long = count_values es i u.some
 
-    -- nothing becomes longer or shorter;
-    pub upward_length : length out ≡ length old
-    upward_length =
-        let within = u.within in
-        ap length u.done ∙ length-append (values_to es i) (drop i old) ∙ omega (arith, long, length-drop i old)
-
     -- the first i places are the values so far;
     pub upward_front : take i out ≡ values_to es i
     upward_front = ap (take i) u.done ∙ take_at (values_to es i) (drop i old) i long

@@ -2,8 +2,8 @@
 -- letters; what stands above this crate uses these and not the tests' definitions. Assumes nothing.
 use Rattle.std.specs.Prelude.{ℕ, ◌<◌, ◌≤◌, true, ◌≡◌, ◌↔◌, List, [], ◌∷◌, length, get_or}
 use Rattle.basics.specs.Membership.{◌∈◌}
-use Rattle.basics.specs.declared.place.Place.TheVariants.{Nowhere}
-use Rattle.basics.specs.declared.tested.Tested.TheVariants.{Passed}
+use Rattle.basics.specs.Place.{Nowhere}
+use Rattle.basics.specs.Tested.{Passed}
 use Rattle.basics.specs.Limits.{most_formulas, most_atoms, most_principals}
 use Rattle.table.specs.declared.entry.Formula.{Formula}
 use Rattle.table.specs.declared.entry.Entry.{Entry}

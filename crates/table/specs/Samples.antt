@@ -1,8 +1,7 @@
 -- The samples of document 01 as far as they are about tables, and where two tests apply. Proved in proofs/Samples.antt,
 -- by computation. Assumes nothing.
 use Rattle.std.specs.Prelude.{ℕ, true, false, ◌≡◌, List, [], ◌∷◌, map, replicate}
-use Rattle.basics.specs.declared.tested.Tested.{Tested}
-use Rattle.basics.specs.declared.tested.Tested.TheVariants.{Passed, Refused}
+use Rattle.basics.specs.Tested.{Tested, Passed, Refused}
 use Rattle.logic.specs.Proposition as P
 use Rattle.logic.specs.Proposition.{◌implies◌, ◌and◌, ◌or◌, ◌says◌}
 use Rattle.table.specs.declared.entry.Entry.TheVariants.{Atom, False, Implies, And, Or, Says}

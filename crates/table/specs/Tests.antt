@@ -1,7 +1,7 @@
 -- Tests 2, 4 and 5 of 01 for a table that is lent as two parallel arrays, heads and seconds. Assumes nothing.
 use Rattle.std.specs.Prelude.{ℕ, Bool, true, false, not, ◌≡◌, List, [], ◌∷◌, length, get_or, eqb, ltb, leb}
-use Rattle.basics.specs.declared.place.Place.{Place}
-use Rattle.basics.specs.declared.tested.Tested.{Tested}
+use Rattle.basics.specs.Place.{Place}
+use Rattle.basics.specs.Tested.{Tested}
 use Rattle.basics.specs.Limits.{most_formulas}
 use Rattle.basics.specs.Choice.{both}
 use Rattle.basics.specs.First.{first, found}
@@ -9,6 +9,7 @@ use Rattle.basics.specs.Refusals.{Test, test, at0, first_refusal}
 use Rattle.table.specs.declared.entry.Formula.{Formula}
 use Rattle.table.specs.declared.entry.Entry.{Entry}
 use Rattle.table.specs.declared.entry.Entry.TheVariants.{Atom, False, Implies, And, Or, Says, IllFormed}
+use Rattle.table.specs.declared.lent.Table.{Table}
 use Rattle.table.specs.Entry.{entry}
 
 -- "Then two parallel arrays of F words each, heads and seconds." Of arrays of unlike length, as far as both go.
@@ -16,6 +17,10 @@ unfoldable pub entries : List ℕ → List ℕ → List Entry
 entries [] seconds = []
 entries (h ∷ hs) [] = []
 entries (h ∷ hs) (s ∷ ss) = entry h s ∷ entries hs ss
+
+-- those of a table as the code is lent it
+abbrev pub entries_of : Table → List Entry
+entries_of table = entries table.heads.now table.seconds.now
 
 -- A number of F or more has no entry: it is ill-formed.
 abbrev pub entry_at : List Entry → ℕ → Entry

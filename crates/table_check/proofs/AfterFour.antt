@@ -7,7 +7,7 @@ use mathlib.Core.Path.{◌≡◌, refl, sym, ◌∙◌}
 use lib.Dec.{ltb}
 use lib.ListN.{length, get_or}
 use borrow.Author.Tests.{ltb-true, not-false}
-use Rattle.basics.specs.declared.place.Place.TheVariants.{Nowhere}
+use Rattle.basics.specs.Place.{Nowhere}
 use Rattle.basics.specs.Limits.{most_formulas}
 use Rattle.basics.specs.Word.{upper, lower}
 use Rattle.basics.proofs.Choice.{both_true, pick_cases}

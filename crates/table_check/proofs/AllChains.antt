@@ -2,11 +2,14 @@
 use Prim.Native.Nat.{ℕ, ◌+◌, ◌<◌, ◌≤◌}
 use native.Mathlib.Decide.{ℕ_discrete}
 use native.Mathlib.Omega.{arith}
-use mathlib.Core.Bool.{true, false, true≢false}
+use mathlib.Core.Bool.{Bool, true, false, true≢false}
 use mathlib.Core.List.{List}
 use mathlib.Core.Path.{◌≡◌, refl, sym, ap, ◌∙◌}
+use lib.Dec.{ltb}
 use lib.ListN.{length, get_or}
-use Rattle.basics.specs.declared.place.Place.TheVariants.{At, Nowhere}
+use borrow.Author.Tests.{ltb-true, ltb-false}
+use Rattle.std.specs.Bool.{then_some}
+use Rattle.basics.specs.Place.{Nowhere}
 use Rattle.basics.specs.First.{first}
 use Rattle.basics.proofs.First.{no_place}
 use Rattle.table.specs.Tests.{repeated_entry}
@@ -88,8 +91,9 @@ module _ (hs ss : List ℕ) where
       none : first (is_repeated hs ss) found ≡ Nowhere
       none = (no_place (is_repeated hs ss) found).1 (λ k l. d.none_before k k (omega arith) l refl)
 
-      pub done_at : found < length hs → At found ≡ repeated_entry hs ss
-      done_at l = repeated_at hs ss found l none (d.repeated l)
+      answer : (b : Bool) → ltb found (length hs) ≡ b → then_some b found ≡ repeated_entry hs ss
+      answer true e = let l = ltb-true found (length hs) e in repeated_at hs ss found l none (d.repeated l)
+      answer false e = repeated_nowhere hs ss found (omega (arith, ltb-false found (length hs) e, d.within)) none
 
-      pub done_nowhere : length hs ≤ found → Nowhere ≡ repeated_entry hs ss
-      done_nowhere l = repeated_nowhere hs ss found (omega (arith, d.within)) none
+      pub done_all : then_some (ltb found (length hs)) found ≡ repeated_entry hs ss
+      done_all = answer (ltb found (length hs)) refl

@@ -4,35 +4,17 @@ use native.Mathlib.Decide.{ℕ_discrete}
 use native.Mathlib.Omega.{arith}
 use mathlib.Core.Bool.{true, false}
 use mathlib.Core.List.{List}
-use mathlib.Core.Path.{◌≡◌, refl, sym, ap, subst, ◌∙◌}
+use mathlib.Core.Path.{◌≡◌, sym, ap, subst, ◌∙◌}
 use lib.ListN.{length, get_or, set, replicate, length-set, length-replicate, get_or-replicate}
 use lib.Seq.{get_or-set_same, get_or-set_other}
 use Rattle.basics.specs.Limits.{most_formulas}
 use Rattle.table.specs.Tests.{same}
 use Rattle.table_check.specs.Index.{is_repeated}
-use Rattle.table_check.specs.Chains.{NextFrom, Chained, Linked, Notes, FirstOfHead}
+use Rattle.table_check.specs.Chains.{NextFrom, Chained, Notes}
 use Rattle.table_check.proofs.Scan.{untrue, repeats, earlier_same, same_parts, same_whole}
 use Rattle.table_check.proofs.Trees.{zeros}
 
 module _ (hs : List ℕ) where
-  -- From an entry on, the first with its head is the entry itself.
-  next_here : (n : ℕ) → n ≤ most_formulas → NextFrom hs (get_or hs n 0) n n
-  next_here n low = record { from = omega arith; low = low; its = λ l. refl; none_between = λ k a b. absurd (omega arith) }
-
-  -- It is the same from one entry earlier, where that has another head.
-  next_earlier : (head n p : ℕ) → ¬ (get_or hs n 0 ≡ head) → NextFrom hs head (n + 1) p → NextFrom hs head n p
-  next_earlier head n p other next =
-      record {
-        from = omega (arith, next.from);
-        low = next.low;
-        its = next.its;
-        none_between = λ k a b l is. between k a b l is (ℕ_discrete k n);
-      }
-    where
-      between : (k : ℕ) → n ≤ k → k < p → k < length hs → get_or hs k 0 ≡ head → Dec (k ≡ n) → ⊥
-      between k a b l is (yes e) = other (sym (ap (λ m. get_or hs m 0) e) ∙ is)
-      between k a b l is (no e) = next.none_between k (omega arith) b l is
-
   -- At first no entry is chained, and `first` has a number at each head that is no entry.
   pub chained_none :
       (n m : ℕ) → length hs ≤ most_formulas → ((i : ℕ) → i < length hs → get_or hs i 0 < n) → length hs ≤ m
@@ -47,36 +29,6 @@ module _ (hs : List ℕ) where
             record { from = few; low = omega arith; its = λ l. absurd (omega arith); none_between = λ k a b l. absurd (omega arith) };
         nexts = λ i a l. absurd (omega arith);
       }
-
-  -- Entry n is put before the chain of its head.
-  module _ (first next : List ℕ) (n : ℕ) (old : Chained hs first next (n + 1)) (small : n < length hs) where
-    abbrev head : ℕ
-    head = get_or hs n 0
-
-    first_more : (other : ℕ) → other < length first → Dec (other ≡ head) → NextFrom hs other n (get_or (set first head n) other 0)
-    first_more other l (yes e) = rw (e, get_or-set_same first head n 0 (old.head_room n small)) (next_here n (omega (arith, old.few)))
-    first_more other l (no e) =
-        rw (get_or-set_other first head other n 0 e) (next_earlier other n (get_or first other 0) (λ is. e (sym is)) (old.firsts other l))
-
-    next_more :
-        (i : ℕ) → n ≤ i → i < length hs → Dec (i ≡ n) → NextFrom hs (get_or hs i 0) (i + 1) (get_or (set next n (get_or first head 0)) i 0)
-    next_more i a l (yes e) =
-        rw (e, get_or-set_same next n (get_or first head 0) 0 (omega (arith, old.next_room))) (old.firsts head (old.head_room n small))
-    next_more i a l (no e) = rw (get_or-set_other next n i (get_or first head 0) 0 e) (old.nexts i (omega arith) l)
-
-    pub chained_more : Chained hs (set first head n) (set next n (get_or first head 0)) n
-    chained_more =
-        record {
-          few = old.few;
-          head_room = λ i l. omega (arith, old.head_room i l, length-set first head n);
-          next_room = omega (arith, old.next_room, length-set next n (get_or first head 0));
-          firsts = λ other l. first_more other (omega (arith, length-set first head n)) (ℕ_discrete other head);
-          nexts = λ i a l. next_more i a l (ℕ_discrete i n);
-        }
-
-  -- With all entries chained, each is linked to the next.
-  pub linked : (first next : List ℕ) → Chained hs first next 0 → Linked hs next
-  linked first next all = record { room = all.next_room; nexts = λ i l. all.nexts i (omega arith) l }
 
   -- At first entry 0 stands at each second.
   pub notes_none : (n : ℕ) → most_formulas ≤ n → Notes hs (replicate n 0)
@@ -101,21 +53,8 @@ module _ (hs ss : List ℕ) (head : ℕ) where
     pub its : j < length hs → get_or hs j 0 ≡ head
     pub noted : (k : ℕ) → k < length hs → k < j → get_or hs k 0 ≡ head → Noted seen j k
 
-  -- It starts at the first entry with the head,
-  pub chain_starts : (bound i : ℕ) (seen : List ℕ) → bound ≤ length hs → Notes hs seen → NextFrom hs head 0 i → InChain bound seen bound i
-  chain_starts bound i seen few notes next =
-      record {
-        notes = notes;
-        within = omega arith;
-        has_head = λ l. absurd (omega arith);
-        repeated = λ l. absurd (omega arith);
-        none_before = λ k l before is. absurd (next.none_between k (omega arith) before (omega arith) is);
-        its = next.its;
-        noted = λ k l before is. absurd (next.none_between k (omega arith) before l is);
-      }
-
   module _ (bound : ℕ) (seen : List ℕ) (found j : ℕ) (s : InChain bound seen found j) where
-    -- finds entry j, where an earlier one is the same,
+    -- It finds entry j, where an earlier one is the same.
     pub chain_finds : (k : ℕ) → j < found → j < length hs → k < j → same hs ss j k ≡ true → InChain bound seen j j
     chain_finds k l inside before e =
         record {
@@ -128,17 +67,7 @@ module _ (hs ss : List ℕ) (head : ℕ) where
           noted = s.noted;
         }
 
-    -- ends past what was found,
-    pub chain_ends : found ≤ j → FirstOfHead hs ss head bound found
-    chain_ends past =
-        record {
-          within = s.within;
-          has_head = s.has_head;
-          repeated = s.repeated;
-          none_before = λ k l is. s.none_before k l (omega arith) is;
-        }
-
-    -- and else notes entry j and goes on:
+    -- Else it notes entry j and goes on.
     module _ (p : ℕ) (few : bound ≤ length hs) (small : j < length hs) (room : get_or ss j 0 < length seen) (next : NextFrom hs head (j + 1) p)
         (other : get_or seen (get_or ss j 0) 0 < j → same hs ss j (get_or seen (get_or ss j 0) 0) ≡ true → ⊥) where
       abbrev more : List ℕ

@@ -2,7 +2,6 @@
 pub mod Bounds
 pub mod Scan
 pub mod AfterFour
-pub mod Roots
 pub mod Trees
 pub mod Search
 pub mod Chains

@@ -1,5 +1,5 @@
 -- The faults that tests 4 and 5 look for, as a loop over both arrays finds them. Assumes nothing.
-use Prim.Native.Nat.{ℕ, ◌+◌, ◌<◌}
+use Prim.Native.Nat.{◌≤◌, ℕ, ◌+◌, ◌<◌}
 use native.Mathlib.Numerals.{add-one}
 use native.Mathlib.Omega.{arith}
 use mathlib.Core.Bool.{Bool, true, false, not, ◌&&◌, true≢false}
@@ -8,8 +8,8 @@ use mathlib.Core.Path.{◌≡◌, refl, sym, ap, ◌∙◌}
 use lib.Dec.{eqb}
 use lib.ListN.{length, get_or}
 use borrow.Author.Tests.{eqb-true, eq-eqb}
-use Rattle.basics.specs.declared.place.Place.{Place}
-use Rattle.basics.specs.declared.place.Place.TheVariants.{At, Nowhere}
+use Rattle.std.specs.Option.{MatchOption}
+use Rattle.basics.specs.Place.{Place, At, Nowhere}
 use Rattle.basics.specs.Choice.{pick}
 use Rattle.basics.specs.First.{or_else, first, found}
 use Rattle.basics.proofs.Choice.{both_true}
@@ -18,11 +18,6 @@ use Rattle.table.specs.Entry.{entry}
 use Rattle.table.specs.Tests.{entries, entry_at, well_formed_at, wrong_entry, same, repeated_entry}
 use Rattle.table.proofs.Entries.{length_entries, entry_at_lem}
 use Rattle.table_check.specs.Index.{is_repeated}
-
--- Of two opposite answers, each is the opposite of the other.
-pub opposite : (a b : Bool) → b ≡ not a → a ≡ not b
-opposite true b e = sym (ap not e)
-opposite false b e = sym (ap not e)
 
 -- A test that can't be true is false.
 pub untrue : (b : Bool) → (b ≡ true → ⊥) → b ≡ false
@@ -45,17 +40,31 @@ module _ (hs ss : List ℕ) where
       (i : ℕ) (b : Bool) → i < length hs → i < length ss → b ≡ well_formed_at i (entry (get_or hs i 0) (get_or ss i 0)) → wrong i ≡ not b
   judged i b in_heads in_seconds asked = cc (entry_at_lem hs ss i in_heads in_seconds)
 
-  -- Entry i is wrong and none before it is: 4 answers i.
-  pub wrong_at : (i : ℕ) → i < length hs → i < length ss → first wrong i ≡ Nowhere → wrong i ≡ true → wrong_entry (entries hs ss) ≡ At i
-  unfolding wrong_entry
-  wrong_at i in_heads in_seconds none here = first_at wrong (length (entries hs ss)) i none here (omega (arith, length_entries hs ss))
-
   -- At the end of the table 4 has its answer.
   pub wrong_end : (i : ℕ) → length hs ≡ length ss → i ≡ length hs → first wrong i ≡ wrong_entry (entries hs ss)
   unfolding wrong_entry
   wrong_end i alike end =
       let all : i ≡ length (entries hs ss) = omega (arith, length_entries hs ss) in
       ap (first wrong) all
+
+  -- What the code asks of entry i.
+  abbrev pub asked : ℕ → Bool
+  asked i = well_formed_at i (entry (get_or hs i 0) (get_or ss i 0))
+
+  -- The first entry of which this is false, or that there is none, is what 4 answers.
+  pub wrong_found :
+      (r : Place) → length hs ≡ length ss
+      → MatchOption r ((k : ℕ) → 0 ≤ k → k < length hs → asked k ≡ true)
+      (λ i. (0 ≤ i) × (i < length hs) × (asked i ≡ false) × ((k : ℕ) → 0 ≤ k → k < i → asked k ≡ true))
+      → r ≡ wrong_entry (entries hs ss)
+  unfolding wrong_entry
+  wrong_found (At i) alike (_, inside, here, before) =
+      let none = (no_place wrong i).1 (λ k l. judged k true (omega arith) (omega arith) (sym (before k (omega arith) l))) in
+      let is = judged i false inside (omega arith) (sym here) in
+      sym (first_at wrong (length (entries hs ss)) i none is (omega (arith, length_entries hs ss)))
+  wrong_found Nowhere alike all =
+      let none = (no_place wrong (length hs)).1 (λ k l. judged k true l (omega arith) (sym (all k (omega arith) l))) in
+      sym none ∙ wrong_end (length hs) alike refl
 
   -- Entry i is well-formed or not, as b says, and `so_far` says that of all before it.
   pub none_wrong_more :

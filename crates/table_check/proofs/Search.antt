@@ -6,15 +6,9 @@ use mathlib.Core.List.{List}
 use mathlib.Core.Path.{◌≡◌, refl, sym, subst, ◌∙◌}
 use lib.ListN.{length, get_or, set}
 use lib.Seq.{get_or-set_same}
-use Rattle.basics.specs.declared.place.Place.{Place}
 use Rattle.table.specs.Tests.{same}
-use Rattle.table_check.specs.Index.{root, key, onward, Meets, here, further, is_repeated, Found, Indexed, Told, Answers}
-use Rattle.table_check.specs.declared.by_index.Search.{Search}
-use Rattle.table_check.specs.declared.by_index.Search.TheVariants.{Ended}
-use Rattle.table_check.specs.declared.by_index.Taken.{Taken}
-use Rattle.table_check.specs.declared.by_index.Taken.TheVariants.{In, Repeated}
-use Rattle.table_check.proofs.Roots.{root_below}
-use Rattle.table_check.proofs.Scan.{untrue, same_parts, earlier_same, repeats}
+use Rattle.table_check.specs.Index.{onward, Meets, here, further, is_repeated, Found, Indexed}
+use Rattle.table_check.proofs.Scan.{untrue, earlier_same, repeats}
 use Rattle.table_check.proofs.Trees.{kept, indexed_more}
 
 -- From an empty slot nothing is met.
@@ -32,12 +26,6 @@ meets_onward roots slots k j p x link other (further l h m) =
     subst (λ n. Meets roots slots k (onward roots n x) (x / 2)) is m
 
 module _ (hs ss : List ℕ) (roots : ℕ) (slots : List ℕ) (i : ℕ) where
-  -- What is the same is searched for on the same path.
-  same_path : (k : ℕ) → same hs ss i k ≡ true → Found hs ss roots slots k k → Found hs ss roots slots i k
-  same_path k e m =
-      let (head, second) = same_parts hs ss i k e in
-      rw (head, second) m
-
   -- The search for entry i has come to slot p, which holds a link, with the bits x: an earlier entry that is the same
   -- is met from there. And entry i is found where it is met from there, once it is written into a slot e that is empty
   -- yet.
@@ -49,20 +37,8 @@ module _ (hs ss : List ℕ) (roots : ℕ) (slots : List ℕ) (i : ℕ) where
     pub leads : (e : ℕ) → get_or slots e 0 ≡ 0 → Meets roots (set slots e (i + 1)) i p x → Found hs ss roots (set slots e (i + 1)) i i
 
   module _ (index : Indexed hs ss roots slots i) where
-    -- It starts at the root,
-    pub search_starts :
-        (p x : ℕ) → p ≡ root roots (get_or hs i 0) (get_or ss i 0) → x ≡ key (get_or hs i 0) (get_or ss i 0) → Searched p x (get_or slots p 0)
-    search_starts p x at bits =
-        record {
-          holds = refl;
-          earlier = index.known p;
-          before = omega (arith, root_below ((get_or hs i 0 + get_or ss i 0 * 39277) * 40503) roots index.some_root);
-          ahead = λ k l e. rw (at, bits) (same_path k e (index.each k l));
-          leads = λ e empty m. rw (at, bits) at m;
-        }
-
     module _ (p x link : ℕ) (s : Searched p x link) where
-      -- goes on where there is a link,
+      -- It goes on where there is a link,
       module _ (some : 0 < link) where
         its : get_or slots p 0 ≡ link - 1 + 1
         its = omega (arith, s.holds)
@@ -106,15 +82,3 @@ module _ (hs ss : List ℕ) (roots : ℕ) (slots : List ℕ) (i : ℕ) where
         search_writes small =
             indexed_more hs ss roots slots i p index small empty s.before
             (s.leads p empty (here (get_or-set_same slots p (i + 1) 0 (omega (arith, s.before, index.room)))))
-
--- What is told of an entry that is in, and of one that is repeated.
-module _ (hs ss : List ℕ) (roots : ℕ) (slots : List ℕ) (i : ℕ) (r : Taken) (told : Told hs ss roots slots i r) where
-  pub told_in : (left : ℕ) → r ≡ In left → (is_repeated hs ss i ≡ false) × Indexed hs ss roots slots (i + 1)
-  told_in left e = subst (Told hs ss roots slots i) e told
-
-  pub told_repeated : r ≡ Repeated → is_repeated hs ss i ≡ true
-  told_repeated e = subst (Told hs ss roots slots i) e told
-
--- A search that ended has the answer.
-pub ended : (r : Search) (place answer : Place) → Answers r answer → r ≡ Ended place → place ≡ answer
-ended r place answer a e = subst (λ q. Answers q answer) e a

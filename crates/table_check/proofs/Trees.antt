@@ -4,20 +4,16 @@ use native.Mathlib.Decide.{ℕ_discrete}
 use native.Mathlib.Omega.{arith}
 use mathlib.Core.List.{List}
 use mathlib.Core.Path.{◌≡◌, refl, sym, ap, ◌∙◌}
-use lib.ListN.{length, get_or, set, replicate, length-set, length-replicate}
+use lib.ListN.{length, get_or, set, replicate, length-set}
 use lib.Seq.{get_or-set_same, get_or-set_other}
 use borrow.Author.Count.{below_more}
-use Rattle.table_check.specs.Index.{Meets, here, further, Found, Indexed, Cleared}
+use Rattle.table_check.specs.Index.{Meets, here, further, Found, Indexed}
 
 -- Of zeros, each is 0.
 pub zeros : (n p : ℕ) → get_or (replicate {A = ℕ} n 0) p 0 ≡ 0
 zeros zero p = refl
 zeros (suc n) zero = refl
 zeros (suc n) (suc p) = zeros n p
-
--- Slots of zeros have no link.
-pub cleared : (n : ℕ) → n < 65536 → Cleared (replicate n 0)
-cleared n few = record { few = omega (arith, length-replicate {A = ℕ} n 0); empty = zeros n }
 
 -- A slot that is empty stands on no path: what is written there leaves the others as they were,
 pub kept : (slots : List ℕ) (e v p l : ℕ) → get_or slots e 0 ≡ 0 → get_or slots p 0 ≡ l + 1 → get_or (set slots e v) p 0 ≡ l + 1
@@ -31,23 +27,6 @@ meets_kept roots slots k e v empty {p} {x} (here h) = here (kept slots e v p k e
 meets_kept roots slots k e v empty {p} {x} (further j h m) = further j (kept slots e v p j empty h) (meets_kept roots slots k e v empty m)
 
 module _ (hs ss : List ℕ) (roots : ℕ) where
-  -- It begins with no link.
-  pub indexed_none : (slots : List ℕ) → Cleared slots → 0 < roots → roots + 2 * length hs ≤ length slots → Indexed hs ss roots slots 0
-  indexed_none slots clear some room =
-      record {
-        some_root = some;
-        room = room;
-        few = clear.few;
-        known = λ p. omega (arith, clear.empty p);
-        rises = λ p j l. absurd (omega (arith, clear.empty p));
-        each = λ k l. absurd (omega arith);
-      }
-
-  -- So does one in slots of zeros.
-  pub indexed_new : (n : ℕ) → 0 < roots → roots + 2 * length hs ≤ n → n < 65536 → Indexed hs ss roots (replicate n 0) 0
-  indexed_new n some room few =
-      indexed_none (replicate n 0) (cleared n few) some (omega (arith, length-replicate {A = ℕ} n 0))
-
   -- Entry n is written into an empty slot e, to which its own path leads.
   module _ (slots : List ℕ) (n e : ℕ) (old : Indexed hs ss roots slots n) (small : n < length hs) (empty : get_or slots e 0 ≡ 0)
       (at : e < roots + 2 * n) where

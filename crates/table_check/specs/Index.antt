@@ -3,14 +3,11 @@
 -- one for a key whose next bit is 0 and one for 1. A slot holds a link, one more than the number of an entry, or 0 for
 -- none. Only private functions of src/by_index.rt and src/repeat.rt speak of this; what test 5 answers is
 -- `repeated_entry` of `table`, where no slot stands. Assumes nothing.
-use Rattle.std.specs.Prelude.{ℕ, ◌+◌, ◌*◌, ◌/◌, ◌%◌, ◌<◌, ◌≤◌, Bool, true, false, List, ◌≡◌, length, get_or}
-use Rattle.basics.specs.declared.place.Place.{Place}
+use Rattle.std.specs.Prelude.{ℕ, ◌+◌, ◌*◌, ◌/◌, ◌%◌, ◌<◌, ◌≤◌, Bool, true, false, List, ◌≡◌, length, get_or, Option, Some, None, Result, Ok, Err}
+use Rattle.basics.specs.Place.{Place}
 use Rattle.basics.specs.First.{first, found}
 use Rattle.table.specs.Tests.{same}
-use Rattle.table_check.specs.declared.by_index.Taken.{Taken}
-use Rattle.table_check.specs.declared.by_index.Taken.TheVariants.{In, Repeated}
-use Rattle.table_check.specs.declared.by_index.Search.{Search}
-use Rattle.table_check.specs.declared.by_index.Search.TheVariants.{Ended, GivenUp}
+use Rattle.table_check.specs.declared.by_index.GivenUp.{GivenUp}
 
 -- the root of a head and a second: any function would do for what is promised; this one is for speed
 abbrev pub root : ℕ → ℕ → ℕ → ℕ
@@ -56,16 +53,11 @@ module _ (heads seconds : List ℕ) where
     pub each : (k : ℕ) → k < n → Found roots slots k k
 
   -- what is told of entry i, which was to be taken in; `passed` is free: it decides only when the index is given up
-  abbrev pub Told : ℕ → List ℕ → ℕ → Taken → Type 0
-  Told roots slots i (In passed) = (is_repeated i ≡ false) × Indexed roots slots (i + 1)
-  Told roots slots i Repeated = is_repeated i ≡ true
-
--- slots for an index, with no link yet
-pub record Cleared (slots : List ℕ) : Type 0 where
-  pub few : length slots < 65536
-  pub empty : (p : ℕ) → get_or slots p 0 ≡ 0
+  abbrev pub Told : ℕ → List ℕ → ℕ → Option ℕ → Type 0
+  Told roots slots i (Some passed) = (is_repeated i ≡ false) × Indexed roots slots (i + 1)
+  Told roots slots i None = is_repeated i ≡ true
 
 -- a search that ended has the answer; one that was given up has none
-abbrev pub Answers : Search → Place → Type 0
-Answers (Ended place) answer = place ≡ answer
-Answers GivenUp answer = Unit
+abbrev pub Answers : Result Place GivenUp → Place → Type 0
+Answers (Ok place) answer = place ≡ answer
+Answers (Err given_up) answer = Unit

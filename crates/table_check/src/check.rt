@@ -4,31 +4,24 @@ ghost use Rattle.table.specs.Tests.{table_tests};
 
 use crate::order::wrong_entry;
 use crate::repeat::repeated_entry;
-use basics::place::Place;
-use basics::tested::Tested;
-use table::check::is_sized;
+use basics::refusal::Refusal;
+use table::lent::Table;
 
 // 2, 4 and 5. "5 .. tested after 4 has passed the whole table"
-pub fn check_table(heads: &[u16], seconds: &[u16]) -> Tested
-    ensures { result ≡ table_tests heads.now seconds.now }
+pub fn check_table(table: Table) -> Result<(), Refusal>
+    ensures { result ≡ table_tests table.entry.heads.now table.entry.seconds.now }
 {
-    if !is_sized(heads, seconds) {
-        return Tested::Refused {
+    if !table.is_sized() {
+        return Err(Refusal {
             number: 2,
             place: 0,
-        };
+        });
     }
-    if let Place::At(i) = wrong_entry(heads, seconds) {
-        return Tested::Refused {
-            number: 4,
-            place: i,
-        };
+    if let Some(place) = wrong_entry(table) {
+        return Err(Refusal { number: 4, place });
     }
-    if let Place::At(i) = repeated_entry(heads, seconds) {
-        return Tested::Refused {
-            number: 5,
-            place: i,
-        };
+    if let Some(place) = repeated_entry(table) {
+        return Err(Refusal { number: 5, place });
     }
-    Tested::Passed
+    Ok(())
 }

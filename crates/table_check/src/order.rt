@@ -3,14 +3,15 @@ ghost use Rattle.std.specs.Prelude.{◌≤◌, not, ◌≡◌, length};
 ghost use Rattle.basics.specs.First.{found};
 ghost use Rattle.basics.specs.Limits.{most_formulas};
 ghost use Rattle.table.specs.Entry.{entry};
-ghost use Rattle.table.specs.Tests.{entries, well_formed_at, wrong_entry};
+ghost use Rattle.table.specs.Tests.{entries_of, well_formed_at, wrong_entry};
 ghost use Rattle.table_check.specs.Bounds.{first_bound, second_bound};
 
 use basics::limits::{MOST_ATOMS, MOST_PRINCIPALS};
-use basics::place::Place;
 use basics::word::{lower, upper};
+use table::lent::Table;
 
-// What the first operand of a kind is below, in an entry that is well-formed at number i.
+// What the first operand of a kind is below, in an entry that is well-formed at number i. The kind stays a number, so
+// that the entries of a table can be asked several at once.
 fn first_bound(kind: u16, i: u16) -> u16
     ensures { result ≡ first_bound kind i }
 {
@@ -49,33 +50,24 @@ fn is_well_formed(i: u16, head: u16, second: u16) -> bool
 }
 
 // Whether all entries are well-formed. There is no way out before the end: this is what makes it fast.
-fn are_well_formed(heads: &[u16], seconds: &[u16]) -> bool
-    requires { (length heads.now ≡ length seconds.now) × (length heads.now ≤ most_formulas) }
-    ensures { result ≡ not (found (wrong_entry (entries heads.now seconds.now))) }
+fn are_well_formed(table: Table) -> bool
+    requires { (length table.heads.now ≡ length table.seconds.now) × (length table.heads.now ≤ most_formulas) }
+    ensures { result ≡ not (found (wrong_entry (entries_of table.entry))) }
 {
     let mut so_far = true;
-    let mut n = 0;
-    while n < heads.len() {
-        so_far = so_far & is_well_formed(n as u16, heads[n], seconds[n]);
-        n += 1;
+    for i in 0..table.heads.len() {
+        so_far &= is_well_formed(i as u16, table.heads[i], table.seconds[i]);
     }
     so_far
 }
 
 // "4. An entry has kind 6 or more or a wrong operand (place: the first such entry)."
-pub(crate) fn wrong_entry(heads: &[u16], seconds: &[u16]) -> Place
-    requires { (length heads.now ≡ length seconds.now) × (length heads.now ≤ most_formulas) }
-    ensures { result ≡ wrong_entry (entries heads.now seconds.now) }
+pub(crate) fn wrong_entry(table: Table) -> Option<usize>
+    requires { (length table.heads.now ≡ length table.seconds.now) × (length table.heads.now ≤ most_formulas) }
+    ensures { result ≡ wrong_entry (entries_of table.entry) }
 {
-    if are_well_formed(heads, seconds) {
-        return Place::Nowhere;
+    if are_well_formed(table) {
+        return None;
     }
-    let mut i = 0;
-    while i < heads.len() {
-        if !is_well_formed(i as u16, heads[i], seconds[i]) {
-            return Place::At(i);
-        }
-        i += 1;
-    }
-    Place::Nowhere
+    (0..table.heads.len()).find(|&i| !is_well_formed(i as u16, table.heads[i], table.seconds[i]))
 }

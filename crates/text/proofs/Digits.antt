@@ -1,13 +1,15 @@
 -- The promises of specs/Decimal.antt, from two equations: a number below 10 is one digit, and any other is its tens and
 -- then one digit. Assumes nothing.
-use Prim.Native.Nat.{ℕ, zero, suc, ◌+◌, ◌-◌, ◌*◌, ◌/◌, ◌%◌, ◌^◌, ◌≤◌, ◌<◌}
-use native.Mathlib.Nat.{div-eq_of_lt, div-lt_iff_lt-mul, pow-suc}
+use Prim.Native.Nat.{ℕ, zero, suc, ◌+◌, ◌-◌, ◌*◌, ◌/◌, ◌%◌, ◌^◌, ◌≤◌, ◌<◌, max}
+use native.Mathlib.Nat.{div-eq_of_lt, div-lt_iff_lt-mul, pow-suc, one-le-pow}
 use native.Mathlib.Omega.{arith}
 use mathlib.Core.Path.{◌≡◌, refl, sym, ap, ◌∙◌}
 use mathlib.Core.Logic.{⊎_elim}
 use mathlib.Core.List.Memᴰ
 use mathlib.Core.List.{List, [], ◌∷◌, ◌++◌, Memᴰ}
 use lib.ListN.{length, get_or, length-append, get_or-append}
+use Rattle.std.specs.Fmt.{decimal as printed}
+use Rattle.std.proofs.lemmas.Fmt.{decimal_by_steps}
 use Rattle.text.specs.Decimal.{digits, decimal, value_after, value, DecimalReads, DecimalDigits, NoLeadingZero, DecimalLength}
 use Rattle.text.proofs.Split.{split}
 
@@ -131,6 +133,30 @@ decimal_length = by_tens (λ (n : ℕ). (k : ℕ) → n < 10 ^ k → 1 ≤ k →
         let tens-below : n / 10 < 10 ^ suc k = (div-lt_iff_lt-mul {k = 10} (omega arith)).1 below in
         omega (arith, length_more n g, tens (suc k) tens-below (omega arith))
 
--- A number of 64 bits has 20 digits at most.
-pub length_word : (n : ℕ) → n < 2 ^ 64 → length (decimal n) ≤ 20
-length_word n h = decimal_length n 20 (omega arith) (omega arith)
+-- It has more than k digits from 10 to the k on,
+length_least : (k n : ℕ) → 10 ^ k ≤ n → k < length (decimal n)
+length_least zero n h = decimal_some n
+length_least (suc k) n h =
+    let tens : 10 ^ k * 10 ≤ n = rw (pow-suc 10 k) at h in
+    let some : 1 ≤ 10 ^ k = one-le-pow k 10 (omega arith) in
+    omega (arith, length_more n (omega arith), length_least k (n / 10) (omega arith))
+
+-- so the power of 10 that it comes to says how many; 0 has as many as 1.
+pub length_power : (n m k : ℕ) → m ≡ max n 1 → 10 ^ k ≤ m → m < 10 * 10 ^ k → length (decimal n) ≡ k + 1
+length_power zero m k is least less =
+    let one : m ≡ 1 = omega arith in
+    omega (
+      arith,
+      length_least k m least,
+      ap length (decimal_one m (omega arith)),
+      ap length (decimal_one 0 (omega arith)),
+    )
+length_power (suc n) m k is least less =
+    let same : m ≡ suc n = omega arith in
+    let below : suc n < 10 ^ suc k = rw (pow-suc 10 k) (omega arith) in
+    omega (arith, length_least k (suc n) (omega arith), decimal_length (suc n) (suc k) below (omega arith))
+
+-- What the library prints of a number of 64 bits is the same.
+pub printed_same : (n : ℕ) → n < 2 ^ 64 → printed n ≡ decimal n
+printed_same = decimal_by_steps (λ (n : ℕ) (r : List ℕ). r ≡ decimal n) (λ n l. sym (decimal_one n l))
+    (λ n r g tens. ap (λ (r : List ℕ). r ++ ((48 + n % 10) ∷ [])) tens ∙ sym (decimal_more n g))

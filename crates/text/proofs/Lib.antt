@@ -4,6 +4,5 @@ pub mod Ascii
 pub mod Split
 pub mod Places
 pub mod Digits
-pub mod Spelling
 pub mod Parsing
 pub mod Samples

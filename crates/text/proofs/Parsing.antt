@@ -9,10 +9,11 @@ use mathlib.Core.List.{List, [], ◌∷◌, Memᴰ}
 use lib.ListN.{length, get_or, drop, drop_of_length-le}
 use lib.Dec.{leb}
 use lib.Seq.{drop-cons}
-use borrow.Author.Tests.{leb-true, le-leb}
+use borrow.Author.Tests.{le-leb}
 use Rattle.basics.specs.Choice.{both}
 use Rattle.basics.proofs.Choice.{both_true}
-use Rattle.text.specs.declared.parse.Parsed.TheVariants.{Number, NoNumber}
+use Rattle.std.specs.Prelude.{Some, None, ◌&&◌}
+use Rattle.std.specs.Char.{is_ascii_digit}
 use Rattle.text.specs.Ascii.{ascii}
 use Rattle.text.specs.Decimal.{decimal, value_after, value}
 use Rattle.text.specs.Parse.{most_word, is_digit, all_digits, parsed_word, ParsesDecimal, Parses, ParsesNone}
@@ -21,25 +22,24 @@ use Rattle.text.proofs.Digits.{decimal_reads, decimal_digits, decimal_some}
 
 -- ---- the answer
 
--- Where there is no byte there is no number,
-pub parsed_empty : (text : List ℕ) → length text ≡ 0 → NoNumber ≡ parsed_word text
-parsed_empty [] e = refl
-parsed_empty (b ∷ text) e = absurd (omega arith)
-
--- nor where a byte is no digit;
-pub parsed_none : (text : List ℕ) → all_digits text ≡ false → NoNumber ≡ parsed_word text
+-- Where a byte is no digit there is no number,
+pub parsed_none : (text : List ℕ) → all_digits text ≡ false → None ≡ parsed_word text
 parsed_none [] e = refl
 parsed_none (b ∷ text) e = rw e refl
 
--- where there is a byte and all are digits there is one.
+-- and where there is a byte and all are digits there is one.
 pub parsed_all : (text : List ℕ) (n : ℕ) → 0 < length text → all_digits text ≡ true → n ≡ min (value text) most_word
-    → Number n ≡ parsed_word text
+    → Some n ≡ parsed_word text
 parsed_all [] n l e is = absurd (omega arith)
-parsed_all (b ∷ text) n l e is = rw e (ap Number is)
+parsed_all (b ∷ text) n l e is = rw e (ap Some is)
 
--- A digit is 48 at least.
-pub digit_least : (b : ℕ) → is_digit b ≡ true → 48 ≤ b
-digit_least b e = leb-true 48 b ((both_true (leb 48 b) (leb b 57)).0 e).0
+-- The library's test of a digit is the same.
+ascii_digit : (b : ℕ) → is_ascii_digit b ≡ is_digit b
+ascii_digit b = and_both (leb 48 b) (leb b 57)
+  where
+    and_both : (s t : Bool) → (s && t) ≡ both s t
+    and_both true t = refl
+    and_both false t = refl
 
 -- ---- as far as a word goes
 
@@ -86,21 +86,24 @@ module _ {text : List ℕ} {n i : ℕ} (p : Parsing text n i) where
     digits_here = ap all_digits (sym here) ∙ p.digits_left
 
     -- One that is no digit ends it,
-    pub parsing_ends : is_digit (get_or text i 0) ≡ false → NoNumber ≡ parsed_word text
+    pub parsing_ends : is_ascii_digit (get_or text i 0) ≡ false → None ≡ parsed_word text
     parsing_ends e =
-        parsed_none text (sym digits_here ∙ ap (λ (t : Bool). both t (all_digits (drop (i + 1) text))) e)
+        let no : is_digit (get_or text i 0) ≡ false = sym (ascii_digit (get_or text i 0)) ∙ e in
+        parsed_none text (sym digits_here ∙ ap (λ (t : Bool). both t (all_digits (drop (i + 1) text))) no)
 
     -- and a digit is read.
-    pub parsing_more : {m : ℕ} → is_digit (get_or text i 0) ≡ true → m ≡ min (10 * n + (get_or text i 0 - 48)) most_word
+    pub parsing_more : {m : ℕ} → is_ascii_digit (get_or text i 0) ≡ true
+        → m ≡ min (10 * n + (get_or text i 0 - 48)) most_word
         → Parsing text m (i + 1)
     unfolding value_after
     parsing_more {m} e is =
         let next : ℕ = 10 * n + (get_or text i 0 - 48) in
         let rest : List ℕ = drop (i + 1) text in
+        let yes : is_digit (get_or text i 0) ≡ true = sym (ascii_digit (get_or text i 0)) ∙ e in
         record {
           within = omega arith;
           a_word = omega arith;
-          digits_left = sym (ap (λ (t : Bool). both t (all_digits rest)) e) ∙ digits_here;
+          digits_left = sym (ap (λ (t : Bool). both t (all_digits rest)) yes) ∙ digits_here;
           says =
               ap (λ (k : ℕ). min (value_after k rest) most_word) is
               ∙ value_stopped next rest
@@ -122,7 +125,7 @@ module _ {text : List ℕ} {n i : ℕ} (p : Parsing text n i) where
         sym (ap (λ (r : List ℕ). min (value_after n r) most_word) none) ∙ p.says in
         omega arith
 
-  pub parsing_all : 0 < length text → length text ≤ i → Number n ≡ parsed_word text
+  pub parsing_all : 0 < length text → length text ≤ i → Some n ≡ parsed_word text
   parsing_all some l =
       let none = drop_of_length-le text l in
       parsed_all text n some (digits_end none) (says_end none)
@@ -140,7 +143,7 @@ each_digit (b ∷ bytes) each =
       each_digit bytes (λ d m. each d (Memᴰ.tail m)),
     )
 
-parses : (n m : ℕ) → m ≡ min n most_word → parsed_word (decimal n) ≡ Number m
+parses : (n m : ℕ) → m ≡ min n most_word → parsed_word (decimal n) ≡ Some m
 parses n m is =
     sym (parsed_all (decimal n) m (decimal_some n) (each_digit (decimal n) (decimal_digits n))
     (is ∙ ap (λ (k : ℕ). min k most_word) (sym (decimal_reads n))))

@@ -8,7 +8,8 @@ pub fn fill(out: &mut [u8], at: usize, bytes: &[u8]) -> usize
     ensures out_after { out.new ≡ written_at out.old at bytes.now }
     ensures value { result ≡ place_after out.old at bytes.now }
 {
-    // `at + i` grows only while it is below the length, so it stays a usize.
+    // `at + i` grows only while it is below the length, so it stays a usize. A `for` over the bytes that returns where
+    // the room ends makes the texts of sentences a twelfth to a fifth slower, a `copy_from_slice` a quarter to a third.
     let mut i = 0;
     while i < bytes.len() && at + i < out.len() {
         out[at + i] = bytes[i];

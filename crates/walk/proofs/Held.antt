@@ -1,22 +1,18 @@
 -- Slots that hold the statements: once they are held, and once a proof is closed. Assumes nothing.
-use Prim.Native.Nat.{ℕ, ◌<◌, ◌≤◌}
-use native.Mathlib.Omega.{arith}
+use Prim.Native.Nat.{ℕ, ◌<◌}
 use mathlib.Core.Path.{◌≡◌, refl, sym, ap, ◌∙◌, subst}
 use mathlib.Core.List.{List, [], ◌∷◌}
-use lib.ListN.{length, replicate}
+use lib.ListN.{replicate}
 use Rattle.basics.specs.Limits.{most_depth}
-use Rattle.basics.specs.Word.{radix}
 use Rattle.basics.proofs.Membership.{holds_append}
 use Rattle.table.specs.declared.entry.Entry.{Entry}
 use Rattle.table.specs.declared.entry.Formula.{Formula}
 use Rattle.table.specs.Entry.{formula}
-use Rattle.table.specs.Tests.{entries}
-use Rattle.table.proofs.Entries.{length_entries}
 use Rattle.steps.specs.declared.goal.Goal.TheVariants.{True}
 use Rattle.steps.specs.Obligation.{obligation}
 use Rattle.steps.specs.Figure1.{same, walk}
 use Rattle.steps.proofs.Alike.{walk_named}
-use Rattle.hypotheses.specs.Slots.{half, shown, held_all, count_all}
+use Rattle.hypotheses.specs.Slots.{shown, held_all, count_all}
 use Rattle.hypotheses.specs.Trail.{Kept}
 use Rattle.hypotheses.proofs.Held.{shown_all, shown_none, live_all, live_none, half_all}
 use Rattle.walk.specs.Walks.{run_from, Marks, Holding, Empty}
@@ -55,11 +51,3 @@ goal_run {es} steps n h is = walk_named same most_depth es steps 0
 -- Slots that are all 0 hold nothing.
 pub empty_zeros : (k : ℕ) → Empty (replicate k 0)
 empty_zeros k n = shown_none k n
-
--- As many marks as a table has formulas are enough,
-pub marks_table : (heads seconds slots : List ℕ) → length heads ≤ half slots → Marks (entries heads seconds) slots
-marks_table heads seconds slots most n l m = omega (arith, length_entries heads seconds)
-
--- and as many as there are lower numbers are, whatever the table.
-pub marks_all : (es : List Entry) (slots : List ℕ) → radix ≤ half slots → Marks es slots
-marks_all es slots most n l m = omega arith

@@ -11,8 +11,7 @@ use lib.Seq.{drop-cons}
 use borrow.Author.Rules.{part_to_end}
 use Rattle.basics.specs.Limits.{most_depth}
 use Rattle.table.specs.declared.entry.Entry.{Entry}
-use Rattle.steps.specs.declared.verdict.WalkVerdict.{WalkVerdict}
-use Rattle.steps.specs.declared.verdict.WalkVerdict.TheVariants.{Closed, Refused}
+use Rattle.steps.specs.Verdict.{WalkVerdict, Closed, Refused}
 use Rattle.steps.specs.Obligation.{Obligation, obligation, obligations}
 use Rattle.steps.specs.Run.{run}
 use Rattle.steps.specs.Figure1.{same, walk}

@@ -16,8 +16,8 @@ use Rattle.steps.specs.declared.goal.Goal.{Goal}
 use Rattle.steps.specs.declared.opened.Premise.{Premise}
 use Rattle.steps.specs.declared.opened.Opened.{Opened}
 use Rattle.steps.specs.declared.opened.Opened.TheVariants as Opening
-use Rattle.steps.specs.declared.verdict.WalkVerdict.{WalkVerdict}
-use Rattle.steps.specs.declared.verdict.WalkVerdict.TheVariants as Verdicts
+use Rattle.steps.specs.Verdict.{WalkVerdict}
+use Rattle.steps.specs.Verdict as Verdicts
 use Rattle.steps.specs.Obligation.{added, under}
 use Rattle.steps.specs.Applies.{Takes}
 use Rattle.steps.specs.Run.{after}
@@ -32,7 +32,7 @@ use Rattle.steps.proofs.PremiseCounts.{Counted, step_counts}
 use Rattle.hypotheses.specs.Slots.{half, shown, held_one, count_one, held_all, count_all, released}
 use Rattle.hypotheses.specs.Trail.{Kept, Undoes}
 use Rattle.hypotheses.proofs.Shown.{shows_shown}
-use Rattle.hypotheses.proofs.Trail.{kept_nothing, same_half, live_most, live_kept, live_hold, half_hold, count_hold, undoes_nothing, undoes_kept, undoes_hold, undoes_length}
+use Rattle.hypotheses.proofs.Trail.{kept_nothing, same_half, live_most, live_kept, live_hold, half_hold, count_hold, undoes_nothing, undoes_kept, undoes_hold}
 use Rattle.hypotheses.proofs.Held.{shown_all}
 use Rattle.premises.specs.declared.premises.Premises.{Premises}
 use Rattle.premises.specs.declared.premises.Premises.TheVariants as Shape
@@ -119,11 +119,6 @@ pub on_entry : {es : List Entry} {steps slots : List ℕ} {w₀ w : Walk} → w 
     → On es steps slots w₀ slots w
 on_entry {es} {steps} {slots} {w₀} {w} e ready =
     rw e (record { run_here = refl; since = since_nothing ready; forward = omega arith })
-
--- The slots are as many as at entry.
-pub on_length : {es : List Entry} {steps before slots : List ℕ} {w₀ w : Walk} → On es steps before w₀ slots w
-    → length slots ≡ length before
-on_length on = undoes_length on.since.undoes
 
 -- The walk w is at a word, where the step leaves the premises x.
 pub record Here (es : List Entry) (steps slots : List ℕ) (w : Walk) (x : Premises) : Type 0 where
@@ -281,22 +276,22 @@ module _ {es : List Entry} {steps before slots : List ℕ} {w₀ w : Walk} (on :
         (under (obligation_of w slots) p ∷ []) closed in
         omega arith
 
-    -- The only premise is refused, or proved.
-    pub only_refused : {p : Premise} {r : Walked} {number place : ℕ} → opened w.goal x ≡ Opening.One p
-        → verdict_of r ≡ premise_from es steps slots w (w.next + 1) p → r ≡ Refused number place
-        → Verdicts.Refused number place ≡ run_from es steps before w₀
-    only_refused e call is = sym (ap verdict_of is) ∙ call ∙ sym (one e)
+    -- What the only premise comes to, and so where it is proved.
+    pub only_answered : {p : Premise} {verdict : WalkVerdict} → opened w.goal x ≡ Opening.One p
+        → verdict ≡ premise_from es steps slots w (w.next + 1) p
+        → verdict ≡ run_from es steps before w₀
+    only_answered e call = call ∙ sym (one e)
 
     pub only_proved : {p : Premise} {r : Walked} {v : Walk} → opened w.goal x ≡ Opening.One p
         → verdict_of r ≡ premise_from es steps slots w (w.next + 1) p → r ≡ Done v
         → Verdicts.Closed v.next ≡ run_from es steps before w₀
-    only_proved e call is = sym (ap verdict_of is) ∙ call ∙ sym (one e)
+    only_proved e call is = sym (ap verdict_of is) ∙ only_answered e call
 
     -- The first of two is refused, or proved, and then the second is due.
     pub first_refused : {p q : Premise} {r : Walked} {number place : ℕ} → opened w.goal x ≡ Opening.Two p q
         → verdict_of r ≡ premise_from es steps slots w (w.next + 1) p → r ≡ Refused number place
-        → Verdicts.Refused number place ≡ run_from es steps before w₀
-    first_refused e call is = sym (two e ∙ rw (← call, is))
+        → verdict_of r ≡ run_from es steps before w₀
+    first_refused e call is = ap verdict_of is ∙ sym (two e ∙ rw (← call, is))
 
     pub first_proved : {p q : Premise} {r : Walked} {v : Walk} → opened w.goal x ≡ Opening.Two p q
         → verdict_of r ≡ premise_from es steps slots w (w.next + 1) p → r ≡ Done v

@@ -1,14 +1,14 @@
 -- What the walk of the code stands for: an obligation of the machine, with the hypotheses that the slots show. Assumes
 -- nothing.
-use Rattle.std.specs.Prelude.{ℕ, ◌+◌, ◌<◌, false, ◌≡◌, List, [], ◌∷◌, length}
+use Rattle.std.specs.Prelude.{ℕ, ◌+◌, ◌<◌, false, ◌≡◌, List, [], ◌∷◌, length, Err}
 use Rattle.basics.specs.Limits.{most_depth}
 use Rattle.basics.specs.Word.{radix}
 use Rattle.basics.specs.Membership.{holds}
 use Rattle.table.specs.declared.entry.Entry.{Entry}
 use Rattle.steps.specs.declared.goal.Goal.{Goal}
 use Rattle.steps.specs.declared.goal.Goal.TheVariants.{True, Affirms}
-use Rattle.steps.specs.declared.verdict.WalkVerdict.{WalkVerdict}
-use Rattle.steps.specs.declared.verdict.WalkVerdict.TheVariants as Verdicts
+use Rattle.steps.specs.Verdict.{WalkVerdict, Closed}
+use Rattle.steps.specs.Verdict as Verdicts
 use Rattle.steps.specs.Obligation.{Obligation}
 use Rattle.steps.specs.Figure1.{same}
 use Rattle.steps.specs.Parts.{walk_from}
@@ -40,7 +40,7 @@ run_from es steps slots w = walk_from same most_depth es steps w.next (obligatio
 
 -- what a walk comes to, as the machine's verdict
 abbrev pub verdict_of : Walked → WalkVerdict
-verdict_of (Done v) = Verdicts.Closed v.next
+verdict_of (Done v) = Closed v.next
 verdict_of (Refused number place) = Verdicts.Refused number place
 
 -- The slots have a mark for each number that a step can name: the lower part of its word, below F,
@@ -65,8 +65,8 @@ pub record Holding (es : List Entry) (statements slots : List ℕ) (held : ℕ) 
 
 -- A proof that is closed leaves the hypotheses as they were held. After a refusal the slots are free.
 abbrev pub LeftHeld : List ℕ → ℕ → WalkVerdict → List ℕ → Type 0
-LeftHeld slots held (Verdicts.Closed q) after = Kept held slots after
-LeftHeld slots held (Verdicts.Refused number place) after = Unit
+LeftHeld slots held (Closed q) after = Kept held slots after
+LeftHeld slots held (Err refusal) after = Unit
 
 -- nothing is held yet
 abbrev pub Empty : List ℕ → Type 0

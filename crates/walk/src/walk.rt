@@ -1,7 +1,7 @@
 // The walk: "The state of the walk is handed on from step to step: next word, depth, hypotheses held." (01) One
-// function checks a truth, one an affirmation. The code of a step says how many premises it has (`premise_count`). Each
-// function goes on with a rule's last premise in its loop, and calls itself or the other for a first premise and at
-// rules 10, 1 and 3, always, while the words that are left fall.
+// function checks a truth, one an affirmation, which call each other: 01 names this form. The code of a step says how
+// many premises it has (`premise_count`). Each function goes on with a rule's last premise in its loop, and calls
+// itself or the other for a first premise and at rules 10, 1 and 3, always, while the words that are left fall.
 ghost use Rattle.std.specs.Prelude.{◌≡◌, ◌+◌, ◌<◌, ◌^◌};
 ghost use Rattle.table.specs.Tests.{entries};
 ghost use Rattle.steps.specs.Obligation.{added as added_by};
@@ -15,8 +15,10 @@ use premises::premises::{Premises, first_premise, last_premise};
 use rules::step::{open_affirmation, open_truth};
 use steps::goal::Goal;
 use steps::opened::Added;
+use table::lent::Table;
 
 // Holds what a premise adds. Answers how many hypotheses there are then.
+#[tactic(auto, unfolding(hypotheses::specs::Slots::held_all, hypotheses::specs::Slots::count_all))]
 fn hold_added(slots: &mut [u16], held: usize, added: Added) -> usize
     ensures value { result ≡ count_all slots.old held (added_by added) }
     ensures slots_after { slots.new ≡ held_all slots.old held (added_by added) }
@@ -31,8 +33,9 @@ fn hold_added(slots: &mut [u16], held: usize, added: Added) -> usize
     }
 }
 
-// Once the first premise is proved, takes back what it added, at the places from `held` to before `more`, and holds what
-// the last adds: no "carrying an added one into the second premise" (01). Answers how many hypotheses there are then.
+// Once the first premise is proved, takes back what it added, at the places from `held` to before `more`, and holds
+// what the last adds: no "carrying an added one into the second premise" (01). Answers how many hypotheses there are
+// then.
 fn hold_last(slots: &mut [u16], held: usize, more: usize, added: Added) -> usize
     ensures value { result ≡ count_all (released slots.old held more) held (added_by added) }
     ensures slots_after { slots.new ≡ held_all (released slots.old held more) held (added_by added) }
@@ -50,7 +53,8 @@ pub(crate) struct Walk {
     pub held: usize,
 }
 
-// The walk after the last word of a proof of its goal, or a refusal.
+// The walk after the last word of a proof of its goal, or a refusal. No `Result<Walk, Refusal>`: with that a long proof
+// takes an eighth longer.
 #[derive(Clone, Copy)]
 pub(crate) enum Walked {
     Done(Walk),
@@ -96,7 +100,8 @@ impl Walk {
         })
     }
 
-    // Checks a truth. What is lent to the calls is a copy of what the loop reads, so that the loop has it at hand.
+    // Checks a truth. Here and in `affirmation` heads and seconds stand apart: with `Table`, by value or by reference,
+    // a proof of what many say takes a twentieth longer.
     #[cycle(walk)]
     pub(crate) fn truth(
         self,
@@ -110,26 +115,17 @@ impl Walk {
         ensures result_value { Walks.verdict_of result ≡ Walks.run_from (entries heads.now seconds.now) steps.now slots.old self }
         ensures left { Walks.Left self slots.old result slots.new }
     {
-        let lent_heads = heads;
-        let lent_seconds = seconds;
-        let lent_steps = steps;
-        let start = self.goal;
-        let Goal::True(given) = start else {
+        let Goal::True(mut f) = self.goal else {
             return self.refused(13);
         };
-        let mut f = given;
+        // With `self` alone the compiler doesn't see which kind the goal is, and a long proof takes an eighth longer.
         let mut walk = Walk {
             goal: Goal::True(f),
-            next: self.next,
-            depth: self.depth,
-            held: self.held,
+            ..self
         };
         // One place each for the walk of a premise and for what it comes to: else a frame has them once for each arm.
-        let mut premise = walk;
-        let mut walked = Walked::Refused {
-            number: 9,
-            place: self.next,
-        };
+        let mut premise: Walk;
+        let mut walked: Walked;
         loop {
             let here = walk.goal;
             let next = walk.next;
@@ -138,12 +134,10 @@ impl Walk {
                 return walk.refused(9);
             }
             let word = steps[next];
-            let premises = open_truth(heads, seconds, slots, walk.depth, f, word);
-            match premises {
-                Premises::Refused(number) => {
-                    return walk.refused(number);
-                }
-                _ => {}
+            let table = Table { heads, seconds };
+            let premises = open_truth(table, slots, walk.depth, f, word);
+            if let Premises::Refused(number) = premises {
+                return walk.refused(number);
             }
             match premise_count(upper(word)) {
                 // It closes.
@@ -153,31 +147,20 @@ impl Walk {
                 // It goes on with its one premise.
                 1 => {
                     let last = last_premise(premises, here);
-                    let goal = last.goal;
-                    let added = last.added;
-                    let more = hold_added(slots, held, added);
-                    match goal {
+                    let more = hold_added(slots, held, last.added);
+                    match last.goal {
                         Goal::True(a) => {
                             f = a;
                             walk = walk.onward(Goal::True(a), next + 1, more);
                         }
                         // Rule 10: an affirmation.
                         Goal::Affirms(_, _) => {
-                            premise = walk.onward(goal, next + 1, more);
-                            walked = premise.affirmation(
-                                lent_heads,
-                                lent_seconds,
-                                lent_steps,
-                                slots,
-                            );
-                            match walked {
-                                Walked::Refused { number, place } => {
-                                    return Walked::Refused { number, place };
-                                }
-                                Walked::Done(after) => {
-                                    return premise.proved(slots, after.next, self.depth, self.held);
-                                }
-                            }
+                            premise = walk.onward(last.goal, next + 1, more);
+                            walked = premise.affirmation(heads, seconds, steps, slots);
+                            let Walked::Done(after) = walked else {
+                                return walked;
+                            };
+                            return premise.proved(slots, after.next, self.depth, self.held);
                         }
                     }
                 }
@@ -185,27 +168,19 @@ impl Walk {
                 _ => {
                     // Where a truth has two premises, both are truths.
                     let first = first_premise(premises, here);
-                    let first_goal = first.goal;
-                    let first_added = first.added;
-                    let with_first = hold_added(slots, held, first_added);
-                    premise = walk.onward(first_goal, next + 1, with_first);
-                    walked = premise.truth(lent_heads, lent_seconds, lent_steps, slots);
-                    match walked {
-                        Walked::Refused { number, place } => {
-                            return Walked::Refused { number, place };
-                        }
-                        Walked::Done(after) => {
-                            let last = last_premise(premises, here);
-                            let last_goal = last.goal;
-                            let Goal::True(a) = last_goal else {
-                                return walk.refused(13);
-                            };
-                            let last_added = last.added;
-                            let with_last = hold_last(slots, held, with_first, last_added);
-                            f = a;
-                            walk = walk.onward(Goal::True(a), after.next, with_last);
-                        }
-                    }
+                    let with_first = hold_added(slots, held, first.added);
+                    premise = walk.onward(first.goal, next + 1, with_first);
+                    walked = premise.truth(heads, seconds, steps, slots);
+                    let Walked::Done(after) = walked else {
+                        return walked;
+                    };
+                    let last = last_premise(premises, here);
+                    let Goal::True(a) = last.goal else {
+                        return walk.refused(13);
+                    };
+                    let with_last = hold_last(slots, held, with_first, last.added);
+                    f = a;
+                    walk = walk.onward(Goal::True(a), after.next, with_last);
                 }
             }
         }
@@ -219,27 +194,16 @@ impl Walk {
         ensures result_value { Walks.verdict_of result ≡ Walks.run_from (entries heads.now seconds.now) steps.now slots.old self }
         ensures left { Walks.Left self slots.old result slots.new }
     {
-        let lent_heads = heads;
-        let lent_seconds = seconds;
-        let lent_steps = steps;
-        let start = self.goal;
-        let Goal::Affirms(given, affirmed) = start else {
+        let Goal::Affirms(mut k, mut f) = self.goal else {
             return self.refused(13);
         };
-        let mut k = given;
-        let mut f = affirmed;
         let mut walk = Walk {
             goal: Goal::Affirms(k, f),
-            next: self.next,
-            depth: self.depth,
-            held: self.held,
+            ..self
         };
         // One place each for the walk of a premise and for what it comes to: else a frame has them once for each arm.
-        let mut premise = walk;
-        let mut walked = Walked::Refused {
-            number: 9,
-            place: self.next,
-        };
+        let mut premise: Walk;
+        let mut walked: Walked;
         loop {
             let here = walk.goal;
             let next = walk.next;
@@ -248,12 +212,10 @@ impl Walk {
                 return walk.refused(9);
             }
             let word = steps[next];
-            let premises = open_affirmation(heads, seconds, slots, walk.depth, k, f, word);
-            match premises {
-                Premises::Refused(number) => {
-                    return walk.refused(number);
-                }
-                _ => {}
+            let table = Table { heads, seconds };
+            let premises = open_affirmation(table, slots, walk.depth, k, f, word);
+            if let Premises::Refused(number) = premises {
+                return walk.refused(number);
             }
             match premise_count(upper(word)) {
                 // It closes.
@@ -263,10 +225,8 @@ impl Walk {
                 // It goes on with its one premise.
                 1 => {
                     let last = last_premise(premises, here);
-                    let goal = last.goal;
-                    let added = last.added;
-                    let more = hold_added(slots, held, added);
-                    match goal {
+                    let more = hold_added(slots, held, last.added);
+                    match last.goal {
                         Goal::Affirms(l, a) => {
                             k = l;
                             f = a;
@@ -274,58 +234,41 @@ impl Walk {
                         }
                         // Rule 1: a truth.
                         Goal::True(_) => {
-                            premise = walk.onward(goal, next + 1, more);
-                            walked = premise.truth(lent_heads, lent_seconds, lent_steps, slots);
-                            match walked {
-                                Walked::Refused { number, place } => {
-                                    return Walked::Refused { number, place };
-                                }
-                                Walked::Done(after) => {
-                                    return premise.proved(slots, after.next, self.depth, self.held);
-                                }
-                            }
+                            premise = walk.onward(last.goal, next + 1, more);
+                            walked = premise.truth(heads, seconds, steps, slots);
+                            let Walked::Done(after) = walked else {
+                                return walked;
+                            };
+                            return premise.proved(slots, after.next, self.depth, self.held);
                         }
                     }
                 }
                 // "followed by all of its first premise, then its second" (01)
                 _ => {
                     let first = first_premise(premises, here);
-                    let first_goal = first.goal;
-                    let first_added = first.added;
-                    let with_first = hold_added(slots, held, first_added);
-                    premise = walk.onward(first_goal, next + 1, with_first);
-                    match first_goal {
+                    let with_first = hold_added(slots, held, first.added);
+                    premise = walk.onward(first.goal, next + 1, with_first);
+                    match first.goal {
                         // Rule 3: the first premise is always a truth.
                         Goal::True(_) => {
-                            walked = premise.truth(lent_heads, lent_seconds, lent_steps, slots);
+                            walked = premise.truth(heads, seconds, steps, slots);
                         }
                         Goal::Affirms(_, _) => {
-                            walked = premise.affirmation(
-                                lent_heads,
-                                lent_seconds,
-                                lent_steps,
-                                slots,
-                            );
+                            walked = premise.affirmation(heads, seconds, steps, slots);
                         }
                     }
-                    match walked {
-                        Walked::Refused { number, place } => {
-                            return Walked::Refused { number, place };
-                        }
-                        Walked::Done(after) => {
-                            let last = last_premise(premises, here);
-                            let last_goal = last.goal;
-                            // Where an affirmation has two premises, the last is an affirmation.
-                            let Goal::Affirms(l, a) = last_goal else {
-                                return walk.refused(13);
-                            };
-                            let last_added = last.added;
-                            let with_last = hold_last(slots, held, with_first, last_added);
-                            k = l;
-                            f = a;
-                            walk = walk.onward(Goal::Affirms(l, a), after.next, with_last);
-                        }
-                    }
+                    let Walked::Done(after) = walked else {
+                        return walked;
+                    };
+                    let last = last_premise(premises, here);
+                    // Where an affirmation has two premises, the last is an affirmation.
+                    let Goal::Affirms(l, a) = last.goal else {
+                        return walk.refused(13);
+                    };
+                    let with_last = hold_last(slots, held, with_first, last.added);
+                    k = l;
+                    f = a;
+                    walk = walk.onward(Goal::Affirms(l, a), after.next, with_last);
                 }
             }
         }

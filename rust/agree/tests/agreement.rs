@@ -31,7 +31,7 @@ fn with_stack(check: impl FnOnce() + Send) {
 #[test]
 fn few_statements_are_those_of_collect() {
     let package = Path::new(env!("CARGO_MANIFEST_DIR"));
-    let source = fs::read_to_string(package.join("../../crates/signers_write/src/collect.rt"))
+    let source = fs::read_to_string(package.join("../../crates/signers_write/src/few.rt"))
         .expect("the source that writes the signers");
     assert!(source.contains(&format!("const FEW: usize = {FEW};")));
 }

@@ -26,5 +26,5 @@ fn the_sizes_are_those_of_repeat() {
     for (name, value) in [("MANY", MANY), ("MANY_ROOTS", MANY_ROOTS), ("MOST_ROOTS", MOST_ROOTS)] {
         assert_in("repeat.rt", &format!("const {name}: usize = {value};"));
     }
-    assert_in("repeat.rt", "let quarter = heads.len() / 4;");
+    assert_in("repeat.rt", "let quarter = table.heads.len() / 4;");
 }

@@ -98,8 +98,9 @@ fn counts_are_those_of_the_definitions() {
 fn names_are_those_of_the_sentences() {
     let text = text("crates/sentences_write/src/name.rt");
     let named = |line: &str| -> Option<Row> {
-        let (code, name) = line.split_once(" => fill(text, at, b\"")?;
-        Some(row([code, name.strip_suffix("\"),")?]))
+        let (code, name) = line.split_once(" => b\"")?;
+        let name = name.strip_suffix("\",")?;
+        (code.trim() != "_").then(|| row([code, name]))
     };
     let (named, cases): (Vec<Row>, _) = (text.lines().filter_map(named).collect(), cases());
     assert_eq!([column(&named, 0), column(&named, 1)], [column(&cases, 0), column(&cases, 1)]);

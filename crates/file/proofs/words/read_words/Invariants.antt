@@ -1,10 +1,7 @@
 -- The loop of `file::words::read_words`: the first i words of the file are written. Assumes nothing.
-use Rattle.std.proofs.Common.{◌-◌, ◌≡◌, ◌≤◌}
+use Rattle.std.proofs.Common.{◌≡◌}
 use Rattle.file.proofs.Reading.{read}
 use Rattle.file.proofs.words.read_words.Given as goal
 
 abbrev pub invariant-loop-i : goal.invariant-loop-i
-invariant-loop-i l = record { within : l.i ≤ l.count; so_far : l.words ≡ read l.file l.fn.words l.i }
-
-abbrev pub decreases-loop-i : goal.decreases-loop-i
-decreases-loop-i l = l.count - l.i
+invariant-loop-i l = l.words ≡ read l.file l.fn.words l.i

@@ -2,10 +2,10 @@
 -- Assumes nothing.
 use Rattle.std.proofs.Common.{sym}
 use Rattle.text.specs.Ascii.{ascii}
-use Rattle.table.specs.Tests.{entries}
+use Rattle.table.specs.Tests.{entries_of}
 use Rattle.sentences.specs.Formula.{proposition_text}
 use Rattle.formula_write.proofs.Filled.{filled_as, filled_none, filled_past}
-use Rattle.formula_write.proofs.Operands.{filled_entry, filled_lower, filled_higher, filled_compound, no_left, no_right}
+use Rattle.formula_write.proofs.Operands.{filled_entry, filled_false, filled_lower, filled_higher, filled_compound, no_left, no_right}
 use Rattle.formula_write.proofs.formula.+formula.Goals as goal
 
 pub fill_formula-returns-then-at-text : goal.fill_formula-returns-then-at-text
@@ -17,9 +17,9 @@ pub fill_formula-returns-in-Atom : goal.fill_formula-returns-in-Atom
 unfolding ascii proposition_text
 fill_formula-returns-in-Atom t c =
     let a = c.args in
-    let f = c.fill_atom.ensures in
+    let f = c.fill_numbered.ensures in
     let all =
-    filled_entry _ _ (entries a.heads.now a.seconds.now) a.n c.entry_at-entry.ensures c.in-Atom.is
+    filled_entry _ _ (entries_of a.table.now) a.n c.entry_at-entry.ensures c.in-Atom.is
     (f.text_after, f.value) in
     record { text_after = all.0; value = all.1 }
 
@@ -29,17 +29,7 @@ fill_formula-returns-in-False t c =
     let a = c.args in
     let f = c.fill.ensures in
     let all =
-    filled_entry _ _ (entries a.heads.now a.seconds.now) a.n c.entry_at-entry.ensures c.in-False.is
-    (f.out_after, f.value) in
-    record { text_after = all.0; value = all.1 }
-
-pub fill_formula-returns-in-IllFormed : goal.fill_formula-returns-in-IllFormed
-unfolding ascii proposition_text
-fill_formula-returns-in-IllFormed t c =
-    let a = c.args in
-    let f = c.fill-in-IllFormed.ensures in
-    let all =
-    filled_entry _ _ (entries a.heads.now a.seconds.now) a.n c.entry_at-entry.ensures c.in-IllFormed.is
+    filled_false _ _ (entries_of a.table.now) a.n c.entry_at-entry.ensures c.in-False.is
     (f.out_after, f.value) in
     record { text_after = all.0; value = all.1 }
 
@@ -54,7 +44,7 @@ fill_formula-returns-in_default t c =
     let right = c.fill_right-end.ensures in
     let last = c.fill-in_default.ensures in
     let all =
-    filled_compound _ _ (entries a.heads.now a.seconds.now) a.n c.entry_at-entry.result c.entry_at-entry.ensures
+    filled_compound _ _ (entries_of a.table.now) a.n c.entry_at-entry.result c.entry_at-entry.ensures
     k.not-Atom k.not-False k.not-IllFormed
     (first.out_after, first.value)
     (left.text_after, left.value)
@@ -68,7 +58,7 @@ fill_left-returns-in_default t c =
     let a = c.args in
     let k = c.in_default in
     let none =
-    no_left (entries a.heads.now a.seconds.now) a.n a.entry k.not-Implies k.not-And k.not-Or k.not-Says in
+    no_left (entries_of a.table.now) a.n a.entry k.not-Implies k.not-And k.not-Or k.not-Says in
     let all = filled_as _ _ (sym none) (filled_none a.text.now a.at) in
     record { text_after = all.0; value = all.1 }
 
@@ -77,7 +67,7 @@ fill_right-returns-in_default t c =
     let a = c.args in
     let k = c.in_default in
     let none =
-    no_right (entries a.heads.now a.seconds.now) a.n a.entry k.not-Implies k.not-And k.not-Or k.not-Says in
+    no_right (entries_of a.table.now) a.n a.entry k.not-Implies k.not-And k.not-Or k.not-Says in
     let all = filled_as _ _ (sym none) (filled_none a.text.now a.at) in
     record { text_after = all.0; value = all.1 }
 
@@ -86,7 +76,7 @@ fill_operand-returns-then-number-n t c =
     let a = c.args in
     let f = c.fill_formula.ensures in
     let all =
-    filled_lower _ _ (entries a.heads.now a.seconds.now) a.n a.f.0 c.if-number-n.true (f.text_after, f.value) in
+    filled_lower _ _ (entries_of a.table.now) a.n a.f.0 c.if-number-n.true (f.text_after, f.value) in
     record { text_after = all.0; value = all.1 }
 
 pub fill_operand-returns : goal.fill_operand-returns
@@ -95,5 +85,5 @@ fill_operand-returns t c =
     let a = c.args in
     let f = c.fill.ensures in
     let all =
-    filled_higher _ _ (entries a.heads.now a.seconds.now) a.n a.f.0 c.if-number-n.false (f.out_after, f.value) in
+    filled_higher _ _ (entries_of a.table.now) a.n a.f.0 c.if-number-n.false (f.out_after, f.value) in
     record { text_after = all.0; value = all.1 }

@@ -1,5 +1,5 @@
 -- `length::entry_length` meets its contract, kind by kind. Assumes nothing.
-use Rattle.std.proofs.Common.{◌≡◌, refl, sym, ap, ◌∙◌, List}
+use Rattle.std.proofs.Common.{◌≡◌, refl, sym, ap, ◌∙◌, ⊎_elim, List}
 use Rattle.text.specs.Ascii.{ascii}
 use Rattle.text.specs.Decimal.{decimal}
 use Rattle.logic.specs.Proposition.{Proposition}
@@ -23,15 +23,14 @@ returns-in-Atom c made e =
 
 pub returns-in-False : goal.returns-in-False
 unfolding ascii proposition_text length_of
-returns-in-False c made e = kind_length made c.in-False.is
+returns-in-False c made e = ⊎_elim (kind_length made) (kind_length made) c.in-False.is
 
 pub returns-in-Implies : goal.returns-in-Implies
 unfolding ascii proposition_text length_of
 returns-in-Implies c made e =
     length_brackets (proposition_text (among made c.in-Implies.a.0)) (ascii " implies ")
     (proposition_text (among made c.in-Implies.b.0)) 11 refl
-    (c.formula_length.ensures made e) (c.formula_length-in-Implies.ensures made e)
-    c.sum-in-Implies.ensures c.sum-in-Implies-2.ensures
+    refl refl (c.operands_length.ensures made e) c.sum-in-Implies.ensures
     ∙ kind_length made c.in-Implies.is
 
 pub returns-in-And : goal.returns-in-And
@@ -39,8 +38,7 @@ unfolding ascii proposition_text length_of
 returns-in-And c made e =
     length_brackets (proposition_text (among made c.in-And.a.0)) (ascii " and ")
     (proposition_text (among made c.in-And.b.0)) 7 refl
-    (c.formula_length-in-And.ensures made e) (c.formula_length-in-And-2.ensures made e)
-    c.sum-in-And.ensures c.sum-in-And-2.ensures
+    refl refl (c.operands_length-in-And.ensures made e) c.sum-in-And.ensures
     ∙ kind_length made c.in-And.is
 
 pub returns-in-Or : goal.returns-in-Or
@@ -48,8 +46,7 @@ unfolding ascii proposition_text length_of
 returns-in-Or c made e =
     length_brackets (proposition_text (among made c.in-Or.a.0)) (ascii " or ")
     (proposition_text (among made c.in-Or.b.0)) 6 refl
-    (c.formula_length-in-Or.ensures made e) (c.formula_length-in-Or-2.ensures made e)
-    c.sum-in-Or.ensures c.sum-in-Or-2.ensures
+    refl refl (c.operands_length-in-Or.ensures made e) c.sum-in-Or.ensures
     ∙ kind_length made c.in-Or.is
 
 pub returns-in-Says : goal.returns-in-Says
@@ -57,10 +54,6 @@ unfolding ascii proposition_text length_of
 returns-in-Says c made e =
     length_brackets (principal_text c.in-Says.k.0) (ascii " says ") (proposition_text (among made c.in-Says.a.0)) 8
     refl
-    c.principal_length.ensures (c.formula_length-in-Says.ensures made e)
+    c.principal_length.ensures (c.formula_length.ensures made e)
     c.sum-in-Says.ensures c.sum-in-Says-2.ensures
     ∙ kind_length made c.in-Says.is
-
-pub returns-in-IllFormed : goal.returns-in-IllFormed
-unfolding ascii proposition_text length_of
-returns-in-IllFormed c made e = kind_length made c.in-IllFormed.is

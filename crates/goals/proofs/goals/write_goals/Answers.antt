@@ -1,14 +1,12 @@
 -- `goals::write_goals` meets its contract. Each place after a step is applied has `Turned` (proofs/Written.antt), by
 -- `turned`, and the lemmas there say what each way on from it makes of that. Assumes nothing.
 use Rattle.std.proofs.Common.{refl}
-use Rattle.goals.proofs.Written.{reached_none, steps_end, turned, ends_refused, ends_closed, ends_full}
-use Rattle.goals.proofs.Written.{goes_back, goes_on, goes_down}
+use Rattle.goals.proofs.Written.{reached_none, steps_end, turned, ends_refused, ends_closed, ends_full, goes_back, goes_on, goes_down}
 use Rattle.goals.proofs.goals.write_goals.Goals as goal
-use Rattle.goals.proofs.goals.write_goals.Goals.{then-count-eq0+else-waiting-eq0, else-count-eq0}
-use Rattle.goals.proofs.goals.write_goals.Goals.{then-count-gt1+else-waiting-eq-MOST_DEPTH, else-count-gt1}
+use Rattle.goals.proofs.goals.write_goals.Goals.{then-count-eq0+else-waiting-eq0, else-count-eq0, then-count-gt1+else-waiting-eq-MOST_DEPTH, else-count-gt1}
 
 pub loop-i-init : goal.loop-i-init
-loop-i-init c = reached_none _ _ _ _ _ _ _ refl refl
+loop-i-init c = reached_none _ _ _ _ _ _ refl
 
 -- refused
 pub returns-then-is_refused : goal.returns-then-is_refused
@@ -58,19 +56,19 @@ loop-i-preserved c =
     let count-is = c.premise_count-count.ensures in
     elim c.if-count-eq0.branch [
       | then-count-eq0+else-waiting-eq0 w ↦
-          rw (w.waiting_numbers-is, w.waiting_affirms-is, w.waiting-is, w.number-is, w.affirm-is)
+          rw (w.later-is, w.waiting-is, w.kept-is)
           (goes_back t refused-is taken count-is w.if-count-eq0.true w.if-waiting-eq0.false)
       | else-count-eq0 w ↦
-          rw (w.waiting_numbers-is, w.waiting_affirms-is, w.waiting-is, w.number-is, w.affirm-is)
+          rw (w.later-is, w.waiting-is, w.kept-is)
           (elim w.if-count-gt1.branch [
             | then-count-gt1+else-waiting-eq-MOST_DEPTH v ↦
-                rw (v.waiting_numbers-is, v.waiting_affirms-is, v.waiting-is)
+                rw (v.later-is, v.waiting-is)
                 (goes_down t refused-is taken count-is v.if-count-gt1.true v.if-waiting-eq-MOST_DEPTH.false
-                w.first_premise-first.ensures w.keep-next.ensures w.last_premise-last.ensures v.keep-later.ensures)
+                w.first_premise-first.ensures w.keep-kept.ensures w.last_premise-last.ensures v.keep.ensures)
             | else-count-gt1 v ↦
-                rw (v.waiting_numbers-is, v.waiting_affirms-is, v.waiting-is)
+                rw (v.later-is, v.waiting-is)
                 (goes_on t refused-is taken count-is w.if-count-eq0.false v.if-count-gt1.false
-                w.first_premise-first.ensures w.keep-next.ensures)
+                w.first_premise-first.ensures w.keep-kept.ensures)
           ])
     ]
 

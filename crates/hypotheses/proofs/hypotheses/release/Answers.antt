@@ -8,21 +8,15 @@ pub loop-i-preserved-then-n-half : goal.loop-i-preserved-then-n-half
 loop-i-preserved-then-n-half c =
     let l = c.loop-i in
     let halves = ap (λ (n : ℕ). n / 2) l.auto.slots in
-    record {
-      in_range = omega arith;
-      left = l.invariant.left ∙ release_marked l.slots c.args.from l.i halves (omega arith) c.if-n-half.true;
-    }
+    l.invariant ∙ release_marked l.slots c.args.from l.i halves (omega arith) c.if-n-half.true
 
 pub loop-i-preserved : goal.loop-i-preserved
 loop-i-preserved c =
     let l = c.loop-i in
     let halves = ap (λ (n : ℕ). n / 2) l.auto.slots in
-    record {
-      in_range = omega arith;
-      left = l.invariant.left ∙ release_unmarked l.slots c.args.from l.i halves (omega arith) c.if-n-half.false;
-    }
+    l.invariant ∙ release_unmarked l.slots c.args.from l.i halves (omega arith) c.if-n-half.false
 
 pub returns : goal.returns
 returns c =
     let l = c.loop-i in
-    sym (l.invariant.left ∙ release_end l.slots c.args.from l.i c.loop-i-test.false)
+    sym (l.invariant ∙ release_end l.slots c.args.from l.i c.loop-i-test.false)

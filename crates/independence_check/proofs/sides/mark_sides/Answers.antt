@@ -11,33 +11,24 @@ use Rattle.steps.specs.Figure1.{same}
 use Rattle.independence.specs.Test.{proving_says}
 use Rattle.independence_check.proofs.sides.mark_sides.Goals as goal
 
-pub returns-after-loop-i : goal.returns-after-loop-i
-returns-after-loop-i c =
-    let l = c.loop-i in
-    let all : length (entries c.args.heads.now c.args.seconds.now) ≤ l.i =
-    omega (arith, length_entries c.args.heads.now c.args.seconds.now) in record {
-      proving_after = upward_all _ l.invariant.on_proving all;
-      given_after = upward_all _ l.invariant.on_given all;
-    }
-
 pub loop-i-init : goal.loop-i-init
 loop-i-init c = record { on_proving = upward_none _ _ _; on_given = upward_none _ _ _ }
 
 pub bounds-proving-i : goal.bounds-proving-i
-bounds-proving-i c = omega (arith, length_entries c.args.heads.now c.args.seconds.now)
+bounds-proving-i c = omega (arith, length_entries c.args.table.heads.now c.args.table.seconds.now)
 
 pub bounds-given-i : goal.bounds-given-i
-bounds-given-i c = omega (arith, length_entries c.args.heads.now c.args.seconds.now)
+bounds-given-i c = omega (arith, length_entries c.args.table.heads.now c.args.table.seconds.now)
 
 pub loop-i-preserved : goal.loop-i-preserved
 loop-i-preserved c =
     let l = c.loop-i in
-    let hs = c.args.heads.now in
-    let ss = c.args.seconds.now in
+    let hs = c.args.table.heads.now in
+    let ss = c.args.table.seconds.now in
     let K = c.args.k.0 in
     let made = spelled (take l.i (entries hs ss)) in
     let inside : l.i < length (entries hs ss) = omega (arith, length_entries hs ss) in
-    let is = c.take_apart-entry.ensures ∙ sym (entry_at_lem hs ss l.i c.loop-i-test.true c.if-i-seconds.true) in
+    let is = c.take_apart-entry.ensures ∙ sym (entry_at_lem hs ss l.i (omega arith) (omega arith)) in
     let p = l.invariant.on_proving in
     let g = l.invariant.on_given in
     let found = c.marks_of-marks.ensures made (upward_front _ p) (upward_front _ g) in record {
@@ -49,11 +40,11 @@ loop-i-preserved c =
           (found.1 ∙ ap (λ (e : Entry). proving_says same K given (proposition made e)) is);
     }
 
-pub returns-else-i-seconds : goal.returns-else-i-seconds
-returns-else-i-seconds c =
+pub returns : goal.returns
+returns c =
     let l = c.loop-i in
-    let all : length (entries c.args.heads.now c.args.seconds.now) ≤ l.i =
-    omega (arith, length_entries c.args.heads.now c.args.seconds.now) in record {
+    let all : length (entries c.args.table.heads.now c.args.table.seconds.now) ≤ l.i =
+    omega (arith, length_entries c.args.table.heads.now c.args.table.seconds.now) in record {
       proving_after = upward_all _ l.invariant.on_proving all;
       given_after = upward_all _ l.invariant.on_given all;
     }

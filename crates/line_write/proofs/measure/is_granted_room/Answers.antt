@@ -6,4 +6,5 @@ use Rattle.line_write.proofs.measure.is_granted_room.Goals as goal
 pub returns : goal.returns
 returns c =
     let a = c.args in
-    granted_room a.room a.count a.signers.now c.less.ensures c.less_decimal-counted.ensures c.less_listed.ensures
+    granted_room a.room a.count a.signers.now c.saturating_sub.ensures c.less_decimal-counted.ensures
+    c.less_listed.ensures

@@ -6,5 +6,5 @@ use Rattle.line_write.proofs.measure.is_refused_room.Goals as goal
 pub returns : goal.returns
 returns c =
     let a = c.args in
-    refused_room a.room a.number a.place c.less.ensures c.less_decimal-numbered.ensures c.less-2.ensures
-    c.less_decimal.ensures
+    refused_room a.room a.refusal.number a.refusal.place c.saturating_sub.ensures c.less_decimal-numbered.ensures
+    c.saturating_sub-2.ensures c.less_decimal.ensures

@@ -1,19 +1,26 @@
 -- `measure::less_listed` meets its contract. Assumes nothing.
-use Rattle.std.proofs.Common.{arith, inl, inr}
-use Rattle.line_write.proofs.Listed.{reached_none, reached_more, reached_all}
+use Rattle.std.proofs.Common.{ap, arith}
+use Rattle.std.proofs.lemmas.Iterator.{YieldsList-from_slice, YieldsList-from_take}
+use Rattle.std.proofs.lemmas.Iterator.Consumers.{YieldsList-end}
+use Rattle.line.specs.RecordLine.{listed}
+use Rattle.line_write.proofs.Listed.{gone_through, gone_through_more}
 use Rattle.line_write.proofs.Room.{left_then}
 use Rattle.line_write.proofs.measure.less_listed.Goals as goal
 
-pub loop-i-init : goal.loop-i-init
-loop-i-init c = reached_none (omega arith)
+pub loop-signer-init : goal.loop-signer-init
+unfolding listed
+loop-signer-init c = omega arith
 
-pub loop-i-preserved : goal.loop-i-preserved
-loop-i-preserved c =
-    reached_more c.loop-i.invariant c.loop-i-test.true c.if-i-signers.true
-    (λ k h. left_then _ k _ h c.less_signer-left.ensures)
+pub loop-signer-preserved : goal.loop-signer-preserved
+loop-signer-preserved c =
+    rw (gone_through_more c.loop-signer.yielded c.in-Some.field-0)
+    (left_then _ (gone_through c.loop-signer.yielded) _ c.loop-signer.invariant c.less_signer-left.ensures)
 
-pub returns-else-i-signers : goal.returns-else-i-signers
-returns-else-i-signers c = reached_all c.loop-i.invariant (inr c.if-i-signers.false)
-
-pub returns-after-loop-i : goal.returns-after-loop-i
-returns-after-loop-i c = reached_all c.loop-i.invariant (inl c.loop-i-test.false)
+pub returns : goal.returns
+returns c =
+    let road =
+    YieldsList-from_take c.args.count (YieldsList-from_slice c.args.signers.now (cc)) (cc) in
+    let all =
+    ap listed
+    (YieldsList-end road c.loop-signer.yielded _ c.loop-signer.yielded_by _ _ c.in-None.is c.next.ensures.steps).0 in
+    rw (← all) c.loop-signer.invariant

@@ -6,4 +6,4 @@ use Rattle.line_write.proofs.measure.less_signer.Goals as goal
 
 pub returns : goal.returns
 unfolding ascii
-returns c = left_then _ (ascii " ") (decimal c.args.signer) c.less.ensures c.less_decimal.ensures
+returns c = left_then _ (ascii " ") (decimal c.args.signer) c.saturating_sub.ensures c.less_decimal.ensures

@@ -1,8 +1,7 @@
--- `ending::ends_with` meets its contract: a shorter name doesn't end so, and else the last part is compared. Assumes
--- nothing.
-use Rattle.std.proofs.Common.{sym}
-use Rattle.samples.proofs.Same.{too_short}
+-- `ending::ends_with` meets its contract: the library compares the ending with the last part. Assumes nothing.
+use Rattle.std.proofs.Common.{◌∙◌}
+use Rattle.samples.proofs.Same.{pointwise_same}
 use Rattle.samples.proofs.ending.ends_with.Goals as goal
 
-pub returns-then-name-ending : goal.returns-then-name-ending
-returns-then-name-ending c = sym (too_short c.args.name.now c.args.ending.now c.if-name-ending.true)
+pub returns : goal.returns
+returns c = c.ends_with.ensures.value ∙ pointwise_same _ c.args.ending.now

@@ -9,6 +9,6 @@ use Rattle.sentences_write.proofs.measure.whole_length.Goals as goal
 
 pub text_length-requires : goal.text_length-requires
 text_length-requires c =
-    let es = entries c.args.heads.now c.args.seconds.now in
+    let es = entries c.args.table.heads.now c.args.table.seconds.now in
     measured_whole es (replicate most_formulas 0) c.measure_formulas.new.lengths
     (omega (arith, c.requires, length-replicate {A = ℕ} most_formulas 0)) c.measure_formulas.ensures

@@ -12,7 +12,7 @@ use Rattle.sentences_write.proofs.text_line.fill_goal.Goals as goal
 pub returns-in-True : goal.returns-in-True
 unfolding goal_text
 returns-in-True c =
-    let es = entries c.args.heads.now c.args.seconds.now in
+    let es = entries c.args.table.heads.now c.args.table.seconds.now in
     let formula = c.fill_formula.ensures in
     let all =
     filled_as _ _ (ap (λ (g : Goal). goal_text (judgment es g)) (sym c.in-True.is))
@@ -22,7 +22,7 @@ returns-in-True c =
 pub returns-in-Affirms : goal.returns-in-Affirms
 unfolding ascii goal_text
 returns-in-Affirms c =
-    let es = entries c.args.heads.now c.args.seconds.now in
+    let es = entries c.args.table.heads.now c.args.table.seconds.now in
     let principal = c.fill_principal-end.ensures in
     let word = c.fill-end.ensures in
     let formula = c.fill_formula-in-Affirms.ensures in

@@ -12,7 +12,7 @@ pub returns-then-is_naming : goal.returns-then-is_naming
 unfolding ascii
 returns-then-is_naming c =
     let a = c.args in
-    let es = entries a.heads.now a.seconds.now in
+    let es = entries a.table.heads.now a.table.seconds.now in
     let blank = c.fill-end.ensures in
     let formula = c.fill_formula.ensures in
     let all =
@@ -25,6 +25,6 @@ pub returns : goal.returns
 returns c =
     let a = c.args in
     let all =
-    filled_unnamed a.text.now a.at (entries a.heads.now a.seconds.now) a.code a.n c.is_naming.ensures
+    filled_unnamed a.text.now a.at (entries a.table.heads.now a.table.seconds.now) a.code a.n c.is_naming.ensures
     c.if-is_naming.false in
     record { text_after = all.0; value = all.1 }

@@ -10,6 +10,6 @@ returns c =
     let a = c.args in
     let w = c.write_signers.ensures in
     let same =
-    signers_by_flags a.heads.now a.seconds.now a.statements.now a.steps.now c.requires.flags_value
+    signers_by_flags a.table.heads.now a.table.seconds.now a.statements.now a.steps.now c.requires.flags_value
     c.requires.most_formulas_in_bounds c.mark_says_lefts.ensures in
     record { value = w.value ∙ ap length same; list_after = w.list_after ∙ ap (written a.list.now) same }

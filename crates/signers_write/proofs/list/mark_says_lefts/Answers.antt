@@ -3,19 +3,15 @@ use Rattle.std.proofs.Common.{arith}
 use Rattle.signers_write.proofs.Marking.{flags_none, flags_next, flags_all}
 use Rattle.signers_write.proofs.list.mark_says_lefts.Goals as goal
 
-pub loop-i-init : goal.loop-i-init
-loop-i-init c = record { within = omega arith; marked = flags_none _ }
+pub loop-word-init : goal.loop-word-init
+loop-word-init c = flags_none _
 
-pub loop-i-preserved : goal.loop-i-preserved
-loop-i-preserved c =
-    let l = c.loop-i in
-    let a = c.args in record {
-      within = omega arith;
-      marked = flags_next a.flags.now a.steps.now l.i l.invariant.marked (omega arith) c.mark_word.ensures;
-    }
+pub loop-word-preserved : goal.loop-word-preserved
+loop-word-preserved c =
+    let l = c.loop-word in
+    flags_next c.args.flags.now c.args.steps.now l.word-index l.invariant (omega arith) c.mark_word.ensures
 
 pub returns : goal.returns
 returns c =
-    let l = c.loop-i in
-    let a = c.args in
-    flags_all a.flags.now a.steps.now l.i l.invariant.marked (omega arith)
+    let l = c.loop-word in
+    flags_all c.args.flags.now c.args.steps.now l.word-index l.invariant (omega arith)

@@ -1,5 +1,5 @@
 -- The invariant of the loop of `by_head::repeated_by_head`: the heads of the entries before i are done.
-use Rattle.std.proofs.Common.{length, ◌-◌, ◌≡◌}
+use Rattle.std.proofs.Common.{length, ◌≡◌}
 use Rattle.basics.specs.Limits.{most_formulas}
 use Rattle.table_check.specs.Chains.{Notes}
 use Rattle.table_check.proofs.AllChains.{Done}
@@ -8,9 +8,6 @@ use Rattle.table_check.proofs.by_head.repeated_by_head.Given as goal
 abbrev pub invariant-loop-i : goal.invariant-loop-i
 invariant-loop-i l = record {
   room : length l.seen ≡ most_formulas;
-  notes : Notes l.heads l.seen;
-  done : Done l.heads l.seconds l.i l.found;
+  notes : Notes l.table.heads.now l.seen;
+  done : Done l.table.heads.now l.table.seconds.now l.i l.found;
 }
-
-abbrev pub decreases-loop-i : goal.decreases-loop-i
-decreases-loop-i l = l.found - l.i

@@ -4,13 +4,12 @@ use Rattle.std.proofs.Common.{length, get_or, ◌+◌, ◌<◌, arith, sym, true
 use Rattle.table_check.specs.Chains.{NextFrom}
 use Rattle.table_check.proofs.Chains.{chain_finds, chain_goes_on}
 use Rattle.table_check.proofs.by_head.repeated_in_chain.Goals as goal
-use Rattle.table_check.proofs.by_head.repeated_in_chain.Goals.{else-k-j-via-then-k-j+else-are_same}
-use Rattle.table_check.proofs.by_head.repeated_in_chain.Goals.{else-k-j-via-else-k-j}
+use Rattle.table_check.proofs.by_head.repeated_in_chain.Goals.{else-k-j-via-then-k-j+else-are_same, else-k-j-via-else-k-j}
 
 pub loop-j-preserved-then-are_same : goal.loop-j-preserved-then-are_same
 loop-j-preserved-then-are_same c =
     let l = c.loop-j in
-    let inside : l.j < length c.args.heads.now = omega (arith, c.requires.within, l.invariant.within) in
+    let inside : l.j < length c.args.table.heads.now = omega (arith, c.requires.within, l.invariant.within) in
     chain_finds _ _ _ _ _ _ _ l.invariant _ c.loop-j-test.true inside c.if-k-j.true
     (sym c.are_same.ensures ∙ c.if-are_same.true)
 
@@ -19,7 +18,7 @@ loop-j-preserved c =
     let l = c.loop-j in
     let a = c.args in
     let p = c.requires in
-    let hs = a.heads.now in
+    let hs = a.table.heads.now in
     let inside : l.j < length hs = omega (arith, p.within, l.invariant.within) in
     -- the next entry of the chain
     let next : NextFrom hs (get_or hs a.i 0) (l.j + 1) (get_or a.next.now l.j 0) =

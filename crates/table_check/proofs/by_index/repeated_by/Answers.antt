@@ -9,21 +9,20 @@ use Rattle.table_check.proofs.by_index.repeated_by.Goals as goal
 
 pub loop-i-init : goal.loop-i-init
 unfolding first
-loop-i-init c = record { within = omega arith; indexed = c.requires.1; none_repeated = refl }
+loop-i-init c = record { indexed = c.requires.1; none_repeated = refl }
 
-pub returns-in-Repeated : goal.returns-in-Repeated
-returns-in-Repeated c =
-    repeated_at _ _ c.loop-i.i c.loop-i-test.true c.loop-i.invariant.none_repeated c.in-Repeated.ensures
+pub returns-in_default : goal.returns-in_default
+returns-in_default c =
+    repeated_at _ _ c.loop-i.i (omega arith) c.loop-i.invariant.none_repeated c.in_default.ensures
 
 pub loop-i-preserved : goal.loop-i-preserved
 loop-i-preserved c =
     let l = c.loop-i in
     let a = c.args in
-    let (new, index) = c.in-In.ensures in
+    let (new, index) = c.in-Some.ensures in
     record {
-      within = omega arith;
       indexed = index;
-      none_repeated = first_none_more (is_repeated a.heads.now a.seconds.now) l.i l.invariant.none_repeated new;
+      none_repeated = first_none_more (is_repeated a.table.heads.now a.table.seconds.now) l.i l.invariant.none_repeated new;
     }
 
 pub returns : goal.returns

@@ -7,7 +7,7 @@ use Rattle.table_check.proofs.by_index.take_in.Given as goal
 
 abbrev pub invariant-loop-link : goal.invariant-loop-link
 invariant-loop-link l = record {
-  searched : Searched l.heads l.seconds l.roots l.slots l.i l.at l.bits l.link;
+  searched : Searched l.table.heads.now l.table.seconds.now l.roots l.slots l.i l.at l.bits l.link;
   few_passed : l.passed ≤ l.at;
 }
 

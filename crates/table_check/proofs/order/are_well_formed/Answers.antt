@@ -4,21 +4,17 @@ use Rattle.basics.specs.First.{first, found}
 use Rattle.table_check.proofs.Scan.{judged, wrong_end, none_wrong_more}
 use Rattle.table_check.proofs.order.are_well_formed.Goals as goal
 
-pub loop-n-init : goal.loop-n-init
+pub loop-i-init : goal.loop-i-init
 unfolding first
-loop-n-init c = record { within = omega arith; judged = refl }
+loop-i-init c = refl
 
-pub loop-n-preserved : goal.loop-n-preserved
-loop-n-preserved c =
-    let l = c.loop-n in
-    record {
-      within = omega arith;
-      judged =
-          none_wrong_more _ _ l.n l.so_far _ l.invariant.judged
-          (judged _ _ _ _ (omega arith) (omega (arith, c.requires.0)) c.is_well_formed-so_far.ensures);
-    }
+pub loop-i-preserved : goal.loop-i-preserved
+loop-i-preserved c =
+    let l = c.loop-i in
+    none_wrong_more _ _ l.i l.so_far _ l.invariant
+    (judged _ _ _ _ (omega arith) (omega (arith, c.requires.0)) c.is_well_formed-so_far.ensures)
 
 pub returns : goal.returns
 returns c =
-    let l = c.loop-n in
-    l.invariant.judged ∙ ap (λ q. not (found q)) (wrong_end _ _ l.n c.requires.0 (omega arith))
+    let l = c.loop-i in
+    l.invariant ∙ ap (λ q. not (found q)) (wrong_end _ _ l.i c.requires.0 (omega arith))

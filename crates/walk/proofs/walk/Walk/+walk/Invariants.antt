@@ -13,20 +13,20 @@ decreases-affirmation l = length l.steps.now - l.self.next
 abbrev pub decreases-truth : goal.decreases-truth
 decreases-truth l = length l.steps.now - l.self.next
 
-abbrev pub invariant-affirmation-loop-lent_heads : goal.invariant-affirmation-loop-lent_heads
-invariant-affirmation-loop-lent_heads l = record {
+abbrev pub invariant-affirmation-loop-self : goal.invariant-affirmation-loop-self
+invariant-affirmation-loop-self l = record {
   own_kind : l.walk.goal ≡ Affirms l.k l.f;
   run_on : On (entries l.heads l.seconds) l.steps l.fn.slots l.self l.slots l.walk;
 }
 
-abbrev pub decreases-affirmation-loop-lent_heads : goal.decreases-affirmation-loop-lent_heads
-decreases-affirmation-loop-lent_heads l = length l.steps - l.walk.next
+abbrev pub decreases-affirmation-loop-self : goal.decreases-affirmation-loop-self
+decreases-affirmation-loop-self l = length l.steps - l.walk.next
 
-abbrev pub invariant-truth-loop-lent_heads : goal.invariant-truth-loop-lent_heads
-invariant-truth-loop-lent_heads l = record {
+abbrev pub invariant-truth-loop-self : goal.invariant-truth-loop-self
+invariant-truth-loop-self l = record {
   own_kind : l.walk.goal ≡ True l.f;
   run_on : On (entries l.heads l.seconds) l.steps l.fn.slots l.self l.slots l.walk;
 }
 
-abbrev pub decreases-truth-loop-lent_heads : goal.decreases-truth-loop-lent_heads
-decreases-truth-loop-lent_heads l = length l.steps - l.walk.next
+abbrev pub decreases-truth-loop-self : goal.decreases-truth-loop-self
+decreases-truth-loop-self l = length l.steps - l.walk.next
