@@ -19,7 +19,7 @@ use Rattle.requests.specs.Requests.{ForEveryRelation}
 use Rattle.requests.proofs.Order.{signers_rise, release_grants, order_not_free, one_possible_line, count_stays}
 use Rattle.requests.proofs.Sentences.{release_written, else_refused}
 use Rattle.requests.proofs.WhoCarried.{eight_counts, eight_of_sentences, eight_stands}
-use Rattle.requests.proofs.Samples.{in_order_lem, only_who_carried_lem, from_papers_lem}
+use Rattle.requests.proofs.Samples.{in_order_lem, only_who_carried_lem, yes_and_no, from_papers_lem}
 
 pub for_every_relation : ForEveryRelation
 for_every_relation speaks R lawful = record {
@@ -60,6 +60,7 @@ for_every_relation speaks R lawful = record {
   in_statements_lem = Asked.in_statements_lem;
   independent_exactly = independent_exactly speaks R lawful.decides;
   not_independent_exactly = not_independent_exactly speaks R lawful.decides;
+  yes_and_no = yes_and_no;
   with_deputies = Asked.with_deputies;
   same_proofs = same_proofs R;
   both_or_neither = both_or_neither R;

@@ -16,7 +16,8 @@ use Rattle.signers.specs.Signers.{principals, used}
 use Rattle.record.specs.Answer.{record_answer}
 use Rattle.line.specs.RefusedLine.{refused_line}
 use Rattle.line.specs.RecordLine.{listed, record_line}
-use Rattle.requests.specs.Samples.{InOrder, OnlyWhoCarried, FromPapers}
+use Rattle.independence.proofs.Samples.{without_paper_lem, matters}
+use Rattle.requests.specs.Samples.{InOrder, OnlyWhoCarried, YesAndNo, FromPapers}
 
 pub in_order_lem : InOrder
 unfolding listed record_line refused_line ascii decimal digits record_answer file_words file_of first_refusal wrong_entry
@@ -27,6 +28,9 @@ pub only_who_carried_lem : OnlyWhoCarried
 unfolding listed record_line refused_line ascii decimal digits record_answer file_words file_of first_refusal wrong_entry
     repeated_entry first into principals used named_numbers is_naming run walk step opens holds entries entry
 only_who_carried_lem = refl
+
+pub yes_and_no : YesAndNo
+yes_and_no = (without_paper_lem.0, matters.0)
 
 pub from_papers_lem : FromPapers
 unfolding listed record_line refused_line ascii decimal digits record_answer file_words file_of first_refusal wrong_entry

@@ -24,7 +24,7 @@ use Rattle.record.specs.Papers.{PapersByEntries, PapersAlone}
 use Rattle.requests.specs.Order.{SignersRise, ReleaseGrants, OrderNotFree, OnePossibleLine, CountStays}
 use Rattle.requests.specs.Sentences.{ReleaseWritten, ElseRefused}
 use Rattle.requests.specs.WhoCarried.{EightCounts, EightOfSentences, EightStands}
-use Rattle.requests.specs.Samples.{InOrder, OnlyWhoCarried, FromPapers}
+use Rattle.requests.specs.Samples.{InOrder, OnlyWhoCarried, YesAndNo, FromPapers}
 
 pub record Requests (speaks : ℕ → ℕ → Bool) (R : Relation) : Type 0 where
   -- Job 1. "Signers shall stand in rising principal number."
@@ -86,6 +86,7 @@ pub record Requests (speaks : ℕ → ℕ → Bool) (R : Relation) : Type 0 wher
   -- goal or of any statement, leaving out statements that are themselves K says something."
   pub independent_exactly : IndependentExactly speaks R
   pub not_independent_exactly : NotIndependentExactly speaks R
+  pub yes_and_no : YesAndNo
   pub with_deputies : Asked.WithDeputies
   -- "Then each proof of the goal is also one, step by step, after K's statements are taken out or exchanged for other
   -- statements of K": over derivations, "for formulas of every depth",

@@ -1,8 +1,10 @@
 -- Samples of the requests: whole files and the lines that the program prints. Proved in proofs/Samples.antt, by
 -- computation. Assumes nothing.
-use Rattle.std.specs.Prelude.{ℕ, ◌≡◌, List, [], ◌∷◌, ◌++◌, map, length}
+use Rattle.std.specs.Prelude.{ℕ, true, false, ◌≡◌, List, [], ◌∷◌, ◌++◌, map, length, Ok}
 use Rattle.text.specs.Ascii.{ascii}
-use Rattle.record.specs.Samples.{over_t, for_both, both_opened}
+use Rattle.record.specs.Samples.{over_t, for_both, both_opened, bytes_of_a}
+use Rattle.independence.specs.Figure1.{independence_answer}
+use Rattle.independence.specs.Samples.{with_paper}
 use Rattle.demands.specs.Samples.{Sample, a_record, ◌prints◌, line_of}
 
 -- 1 and 2 of table T as an order, 3; 4 is principal 7 says 1; and A's goal: and left, and then the word of 7 that it
@@ -62,6 +64,11 @@ only_who_carried =
 
 abbrev pub OnlyWhoCarried : Type 0
 OnlyWhoCarried = Print only_who_carried
+
+-- Job 5. To a caller independent is yes and not independent no: of a record that is independent of principal 7 though
+-- it has a paper of his, and of record A, whose goal is what 7's paper says.
+abbrev pub YesAndNo : Type 0
+YesAndNo = (independence_answer with_paper 7 ≡ Ok true) × (independence_answer bytes_of_a 7 ≡ Ok false)
 
 -- Entries 0 and 1 are atoms, 2 and 3 what principal 7 says of them; entry 4 is the atoms' or, and 5 that 7 says it;
 -- entries 6, 7 and 8 are the ors of 2 and 3, of 2 and 1, and of 1 and 2.
