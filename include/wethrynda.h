@@ -2,7 +2,7 @@
  * Wethrynda: the checks of release records and of exchange files, the proof of a record in sentences, and the test
  * whether a principal can matter to a record's goal, for C. The library is crates/ffi/out/libffi.a, for x86-64 Linux;
  * `rt lib` in the folder crates/ffi makes it. Link it by its path, as examples/check.c is linked: another library has
- * the name `ffi` too.
+ * the name `ffi` too. From outside it needs memcpy and memset, and nothing else.
  *
  * wethrynda_check_record, wethrynda_check_exchange, wethrynda_write_sentences and wethrynda_independent_of are written
  * and proved in Rattle. Their contracts are in crates/ffi/src/lib.rt and decide where a comment here is unclear.

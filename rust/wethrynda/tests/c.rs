@@ -1,6 +1,7 @@
 //! The header and the library from C: the example program is compiled without a warning, and run on
 //! the samples; and null.c, which hands null pointers to the header's inline functions, looks at
-//! what is lent to the one for sentences, and takes answers about a principal apart.
+//! what is lent to the one for sentences, and takes answers about a principal apart; and alone.c,
+//! which has no C library to link.
 mod common;
 
 use common::{samples, top, Answer};
@@ -46,6 +47,12 @@ fn check(program: &Path, kind: &str, file: &Path) -> Output {
 fn assert_no_verdict(run: Output, about: &str) {
     assert_eq!((run.status.code(), run.stdout), (Some(2), vec![]), "{about}");
     assert!(!run.stderr.is_empty(), "{about}");
+}
+
+/// The library needs memcpy and memset from outside, and nothing else.
+#[test]
+fn without_a_c_library() {
+    compiled("alone", "rust/wethrynda/tests/alone.c", &["-nostdlib", "-static", "-fno-builtin"]);
 }
 
 #[test]
