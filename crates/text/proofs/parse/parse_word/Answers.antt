@@ -8,15 +8,15 @@ use Rattle.text.proofs.parse.parse_word.Goals as goal
 pub loop-b-init : goal.loop-b-init
 loop-b-init c = parsing_none _
 
-pub returns-then-not-is_ascii_digit : goal.returns-then-not-is_ascii_digit
-returns-then-not-is_ascii_digit c =
+pub returns-then-not-is_digit : goal.returns-then-not-is_digit
+returns-then-not-is_digit c =
     parsing_ends c.loop-b.invariant c.loop-b-test.true
-    (sym c.is_ascii_digit.ensures.value ∙ c.if-not-is_ascii_digit.true)
+    (sym c.is_digit.ensures ∙ c.if-not-is_digit.true)
 
 pub loop-b-preserved : goal.loop-b-preserved
 loop-b-preserved c =
     parsing_more c.loop-b.invariant c.loop-b-test.true
-    (sym c.is_ascii_digit.ensures.value ∙ c.if-not-is_ascii_digit.false)
+    (sym c.is_digit.ensures ∙ c.if-not-is_digit.false)
     (omega arith)
 
 pub returns : goal.returns
