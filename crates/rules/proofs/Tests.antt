@@ -40,7 +40,7 @@ module _ (es : List Entry) (slots : List ℕ) (g : Goal) (d w : ℕ) where
   too_deep l = rw (lt-leb d most_depth l)
 
   -- and at any other it is the rule of its word's code.
-  step_is : d ≤ most_depth → {code n : ℕ} → code ≡ upper w → n ≡ lower w
+  pub step_is : d ≤ most_depth → {code n : ℕ} → code ≡ upper w → n ≡ lower w
       → by_slots es slots g code n ≡ Figure1.step es w (here slots g d)
   unfolding step opens
   step_is l k m =
